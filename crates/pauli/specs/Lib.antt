@@ -1,0 +1,5 @@
+pub mod Limits
+pub mod Letters
+pub mod Words
+pub mod Laws
+pub mod Text
