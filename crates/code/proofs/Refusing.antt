@@ -16,7 +16,7 @@ use Rattle.pauli.specs.Text.{fault, first, wordOf}
 use Rattle.independence.specs.Pivots.{isSum}
 use Rattle.code.specs.declared.refusal.Refusal.{Refusal}
 use Rattle.code.specs.declared.refusal.Refusal.the-variants.{Full, Length, NoLetter, Clash, Sum}
-use Rattle.code.specs.Refusals.{orElse, refusedIf, textRefusal, rowRefusal}
+use Rattle.code.specs.Refusals.{orElse, refusedIf, fullRefusal, textRefusal, clashRefusal, sumRefusal, rowRefusal}
 
 module _ (n : ℕ) (text : List ℕ) where
   abbrev toldText : Bool → Option ℕ → Option Refusal
@@ -38,14 +38,17 @@ module _ (n : ℕ) (rows : List Word) (text : List ℕ) where
       orElse (refusedIf full (Full maxRows)) (orElse worded (orElse (mapped Clash clash) (refusedIf sum (Sum (length rows + 1)))))
 
   pub when-full : maxRows ≤ length rows → rowRefusal n rows text ≡ Some (Full maxRows)
+  unfolding rowRefusal
   when-full h = ap (λ b. told b (textRefusal n text) (first (syndrome rows (wordOf text))) (isSum rows (wordOf text))) (le-leb maxRows (length rows) h)
 
   module _ (room : length rows < maxRows) where
     pub when-text : (e : Refusal) → textRefusal n text ≡ Some e → rowRefusal n rows text ≡ Some e
+    unfolding rowRefusal
     when-text e h = ap₂ (λ a b. told a b (first (syndrome rows (wordOf text))) (isSum rows (wordOf text))) (lt-leb maxRows (length rows) room) h
 
     module _ (spelt : textRefusal n text ≡ None) where
       to-clash : rowRefusal n rows text ≡ told false None (first (syndrome rows (wordOf text))) (isSum rows (wordOf text))
+      unfolding rowRefusal
       to-clash = ap₂ (λ a b. told a b (first (syndrome rows (wordOf text))) (isSum rows (wordOf text))) (lt-leb maxRows (length rows) room) spelt
 
       pub when-clash : (k : ℕ) → first (syndrome rows (wordOf text)) ≡ Some k → rowRefusal n rows text ≡ Some (Clash k)

@@ -9,13 +9,13 @@ use lib.ListN.{length, getD, take, replicate}
 use Rattle.std.proofs.shelf.Lists.{length-take-le}
 use Rattle.pauli.specs.Limits.{maxPlaces}
 use Rattle.pauli.specs.Words.{Word, star, select, syndrome}
-use Rattle.pauli.proofs.WordLaws.{star-sym, star-self}
+use Rattle.pauli.proofs.WordLaws.{star-none, star-sym, star-self}
 use Rattle.independence.specs.Independence.{Commuting, Independent}
 use Rattle.independence.proofs.Independence.{independent-push, independent-none}
 use Rattle.elimination.specs.declared.column.Column.{Column}
 use Rattle.elimination.specs.Columns.{rows, withRow, hollow, Within}
 use Rattle.elimination.proofs.Marking.{rows-none, rows-put, take-withRow, within-take, within-more, length-withRow, beyond}
-use Rattle.code.specs.Sound.{Unused, wordsOf}
+use Rattle.code.specs.Table.{Unused, wordsOf}
 
 hollows : (n k : ℕ) → getD (replicate n hollow) k hollow ≡ hollow
 hollows zero k = refl
@@ -45,10 +45,6 @@ pub none-free : (n : ℕ) (table : List Column) → Independent n (wordsOf n 0 t
 none-free n table = subst (λ (rs : List Word). Independent n rs) (sym (no-words n table)) (independent-none n)
 
 -- ---- a word more that commutes with all rows
-
-star-none : (w : Word) → star [] w ≡ false
-star-none [] = refl
-star-none (a ∷ w) = refl
 
 pub syndrome-at : (rs : List Word) (w : Word) (i : ℕ) → star (getD rs i []) w ≡ getD (syndrome rs w) i false
 syndrome-at [] w i = star-none w

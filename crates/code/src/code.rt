@@ -5,10 +5,11 @@ ghost use lib.ListN.{length};
 ghost use Rattle.pauli.specs.Limits.{maxPlaces, maxRows};
 ghost use Rattle.independence.specs.Independence.{Commuting, Independent};
 ghost use Rattle.elimination.specs.Columns.{Within};
-ghost use Rattle.code.specs.Sound.{Unused, wordsOf};
+ghost use Rattle.code.specs.Table.{Unused, wordsOf};
 use super::columns::Columns;
 
 mod build;
+mod check;
 mod read;
 mod size;
 

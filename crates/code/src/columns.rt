@@ -29,7 +29,8 @@ impl Columns {
 
     // Whether two tables are the same.
     pub fn same(&self, other: &Columns) -> bool
-        requires { ⌜ length (now self .table) ≡ maxPlaces ⌝ ∗ ⌜ length (now other .table) ≡ maxPlaces ⌝ }
+        requires own { ⌜ length (now self .table) ≡ maxPlaces ⌝ }
+        requires others { ⌜ length (now other .table) ≡ maxPlaces ⌝ }
         ensures { λ r. ⌜ Decides r (now (self .entry) .table ≡ now (other .entry) .table) ⌝ }
     {
         for i in 0..MAX_PLACES {

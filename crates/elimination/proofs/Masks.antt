@@ -61,10 +61,10 @@ bit-xor j a b = ap odd (xor-shr a b j) ∙ odd-xor (a / 2 ^ j) (b / 2 ^ j)
 pub bit-none : (j : ℕ) → bit j 0 ≡ false
 bit-none j = ap odd (zero-div (2 ^ j))
 
-bit-zero : (m : ℕ) → bit 0 m ≡ odd m
+pub bit-zero : (m : ℕ) → bit 0 m ≡ odd m
 bit-zero m = ap odd (div-one m)
 
-bit-suc : (j m : ℕ) → bit (suc j) m ≡ bit j (m / 2)
+pub bit-suc : (j m : ℕ) → bit (suc j) m ≡ bit j (m / 2)
 bit-suc j m = ap odd (ap (λ (n : ℕ). m / 2 ^ n) (sym (one-add j)) ∙ sym (shr-shr m 1 j))
 
 and-split : (k a b : Bool) → (k && xor a b) ≡ xor (k && a) (k && b)

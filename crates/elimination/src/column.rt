@@ -3,16 +3,8 @@ ghost use mathlib.Core.Path.{_≡_};
 ghost use Prim.Native.Nat.{_<_};
 ghost use Rattle.pauli.specs.Limits.{maxRows};
 ghost use Rattle.pauli.specs.Letters.{letter, number, clash, X, Z};
-ghost use Rattle.elimination.specs.Masks.{bit};
+use crate::mask::has;
 ghost use Rattle.elimination.specs.Columns.{against, letterIn, marked};
-
-// Whether a row, from 0, is in a set.
-fn has(set: u64, row: usize) -> bool
-    requires { ⌜ row < maxRows ⌝ }
-    ensures { λ r. ⌜ r ≡ bit row set ⌝ }
-{
-    (set >> row) & 1 == 1
-}
 
 #[derive(Clone, Copy, PartialEq, Eq)]
 pub struct Column {
@@ -33,9 +25,8 @@ impl Column {
         }
     }
 
-    // The number of the letter in a row, from 0.
+    // The number of the letter in a row, from 0, and of I past the last row.
     pub fn letter(&self, row: usize) -> u8
-        requires { ⌜ row < maxRows ⌝ }
         ensures { λ r. ⌜ r ≡ number (letterIn row (now (self .entry))) ⌝ }
     {
         match (has(self.x, row), has(self.z, row)) {

@@ -1,7 +1,6 @@
 -- The laws of letters, each by a test of all cases that computes. Assumes nothing.
 use mathlib.Core.Path.{_≡_, refl, sym, ap, _∙_}
 use mathlib.Core.Bool.{Bool, true, false, _&&_, Bool·beq}
-use Prim.Native.Nat.{ℕ}
 use lib.Dec.{T, eqb→eq}
 use Rattle.pauli.specs.Letters.{Letter, I, X, Y, Z, number, letter, same, clash, plus}
 use Rattle.pauli.specs.Words.{xor}

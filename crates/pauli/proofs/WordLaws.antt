@@ -6,7 +6,7 @@ use Prim.Native.Nat.{ℕ, zero, suc, _%_}
 use lib.Dec.{eqb}
 use native.Mathlib.Omega.{arith}
 use lib.ListN.{length, length-replicate}
-use Rattle.pauli.specs.Letters.{Letter, I, X, Y, Z, clash, plus}
+use Rattle.pauli.specs.Letters.{Letter, I, X, Y, Z, clash}
 use Rattle.pauli.specs.Words.{Word, odd, xor, add, clashCount, star, blank, isBlank, Long, select, syndrome}
 use Rattle.pauli.specs.Laws.{addIf, spot, chosen, weight, WordLaws}
 use Rattle.pauli.proofs.LetterLaws.{plus-comm, plus-assoc, plus-self, plus-I, clash-sym, clash-I, clash-plus}

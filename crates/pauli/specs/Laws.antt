@@ -4,7 +4,7 @@ use mathlib.Core.Bool.{Bool, true, false, cond, _&&_}
 use mathlib.Core.List.{List, [], _∷_}
 use Prim.Native.Nat.{ℕ, suc}
 use lib.ListN.{length}
-use Rattle.pauli.specs.Letters.{Letter, I, X, Y, Z}
+use Rattle.pauli.specs.Letters.{I, X, Y, Z}
 use Rattle.pauli.specs.Words.{Word, xor, odd, add, clashCount, star, blank, Long, select, syndrome}
 
 -- a word added to another where the bit says so
@@ -34,8 +34,7 @@ weight (X ∷ w) = suc (weight w)
 weight (Y ∷ w) = suc (weight w)
 weight (Z ∷ w) = suc (weight w)
 
--- Words of one length are a vector space over the two-element field: their sum is commutative, associative, and each is its
--- own inverse. The parity of clashes is a form on it: symmetric, additive in each argument, and 0 throughout for the blank word only.
+-- words of one length are a vector space over the two-element field, and the parity of clashes is a form that only the blank word makes 0 throughout
 pub record WordLaws : Type 0 where
   pub add-comm : (u v : Word) → add u v ≡ add v u
   pub add-assoc : (u v w : Word) → add (add u v) w ≡ add u (add v w)

@@ -3,6 +3,7 @@ use Prim.Native.Nat.{ℕ, zero, suc}
 use mathlib.Core.Bool.{Bool, true, false, not, _&&_}
 use lib.Dec.{eqb}
 
+-- the identity and the three Pauli matrices
 pub data Letter : Type 0 where
   I X Y Z : Letter
 

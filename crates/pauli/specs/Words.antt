@@ -1,7 +1,7 @@
 -- Words of letters: their sums, when they commute, and the syndrome of an error. Assumes nothing.
 use mathlib.Core.Path.{_≡_}
 use mathlib.Core.Bool.{Bool, true, false, cond, _&&_}
-use mathlib.Core.List.{List, [], _∷_, map}
+use mathlib.Core.List.{List, [], _∷_}
 use Prim.Native.Nat.{ℕ, suc, _%_}
 use lib.Dec.{eqb}
 use lib.ListN.{length, getD, replicate}

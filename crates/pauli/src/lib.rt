@@ -10,6 +10,7 @@ pub use letter::letter_number;
 pub use letter::sum;
 pub use letters::Letters;
 pub use text::read_word;
+pub use text::write_word;
 
 // The most places that a word may have.
 pub const MAX_PLACES: usize = 128;

@@ -1,5 +1,4 @@
-use mathlib.Core.Path.{_≡_, refl, sym, ap, _∙_}
-use mathlib.Core.List.{map}
+use mathlib.Core.Path.{refl, sym, ap, _∙_}
 use lib.ListN.{length, length-map}
 use Rattle.pauli.specs.Limits.{maxRows}
 use Rattle.pauli.specs.Letters.{letter}

@@ -1,0 +1,130 @@
+// The checks of a text before it becomes a row, and the syndrome of an error.
+ghost use mathlib.Core.Path.{_≡_};
+ghost use Prim.Native.Nat.{_≤_};
+ghost use lib.Dec.{leb};
+ghost use lib.ListN.{length};
+ghost use Rattle.std.specs.declared.option.Option.the-variants.{Some};
+ghost use Rattle.std.specs.Options.{isSome};
+ghost use Rattle.std.specs.Results.{Cases};
+ghost use Rattle.pauli.specs.Limits.{maxRows};
+ghost use Rattle.pauli.specs.Words.{syndrome};
+ghost use Rattle.pauli.specs.Text.{first};
+ghost use Rattle.independence.specs.Pivots.{isSum};
+ghost use Rattle.elimination.specs.Masks.{setOf};
+ghost use Rattle.code.specs.Codes.{placesOf, rowsOf, front, bitsOf};
+ghost use Rattle.code.specs.Refusals.{textRefusal, rowRefusal};
+ghost use Rattle.code.specs.Meanings.{Means};
+ghost use Rattle.code.specs.Lemmas.{RowLaws};
+ghost use Rattle.code.specs.Calls.{Spelt, Passed, Told};
+use super::Code;
+use crate::refusal::Refusal;
+use crate::syndrome::Syndrome;
+use elimination::mask::lowest;
+use elimination::sums::sum_of;
+use pauli::Letters;
+use pauli::MAX_ROWS;
+use pauli::read_word;
+
+impl Code {
+    // Whether there is no room for another row.
+    fn is_full(&self) -> bool
+        ensures { λ r. ⌜ r ≡ leb maxRows (length (rowsOf (now (self .entry)))) ⌝ }
+    {
+        self.rows() >= MAX_ROWS
+    }
+
+    // The letters of a text of the code's length.
+    fn spell(&self, text: &[u8]) -> Result<Letters, Refusal>
+        ensures { λ r. ⌜ Cases r
+            (λ w. Spelt (placesOf (now (self .entry))) (now (text .entry)) (w .numbers))
+            (λ e. textRefusal (placesOf (now (self .entry))) (now (text .entry)) ≡ Some e) ⌝ }
+    {
+        if text.len() != self.places {
+            return Err(Refusal::Length { length: text.len() });
+        }
+        match read_word(text) {
+            Ok(word) => Ok(word),
+            Err(place) => Err(Refusal::NoLetter { place }),
+        }
+    }
+
+    // The set of rows that do not commute with a word.
+    fn odd_rows(&self, word: &Letters) -> u64
+        ensures set { λ r. ⌜ r ≡ setOf (syndrome (rowsOf (now (self .entry))) (front (placesOf (now (self .entry))) (now (word .entry) .numbers))) ⌝ }
+        ensures few { λ _. ⌜ length (syndrome (rowsOf (now (self .entry))) (front (placesOf (now (self .entry))) (now (word .entry) .numbers))) ≤ maxRows ⌝ }
+    {
+        self.columns.clashes(self.places, word)
+    }
+
+    // The lowest row, from 1, that does not commute with a word.
+    fn first_clash(&self, word: &Letters) -> Option<usize>
+        ensures { λ r. ⌜ r ≡ first (syndrome (rowsOf (now (self .entry))) (front (placesOf (now (self .entry))) (now (word .entry) .numbers))) ⌝ }
+    {
+        lowest(self.odd_rows(word))
+    }
+
+    // Rows that add to a word, where it is a sum of rows.
+    fn summands(&self, word: &Letters) -> Option<u64>
+        requires { ⌜ length (front (placesOf (now self)) (now word .numbers)) ≡ placesOf (now self) ⌝ }
+        ensures { λ r. ⌜ isSome r ≡ isSum (rowsOf (now (self .entry))) (front (placesOf (now (self .entry))) (now (word .entry) .numbers)) ⌝ }
+    {
+        sum_of(
+            &self.columns.table[..self.places],
+            &word.numbers[..self.places],
+        )
+    }
+
+    // Whether a word is a sum of the rows.
+    fn is_sum(&self, word: &Letters) -> bool
+        requires { ⌜ length (front (placesOf (now self)) (now word .numbers)) ≡ placesOf (now self) ⌝ }
+        ensures { λ r. ⌜ r ≡ isSum (rowsOf (now (self .entry))) (front (placesOf (now (self .entry))) (now (word .entry) .numbers)) ⌝ }
+    {
+        self.summands(word).is_some()
+    }
+
+    // The checks in their order, by what each tells of the refusal.
+    fn check_by(&self, row: &[u8]) -> Result<Letters, Refusal>
+        requires { ⌜ RowLaws ⌝ }
+        ensures cases { λ r. ⌜ Cases r
+            (λ w. Passed (placesOf (now (self .entry))) (rowsOf (now (self .entry))) (now (row .entry)) (w .numbers))
+            (λ e. rowRefusal (placesOf (now (self .entry))) (rowsOf (now (self .entry))) (now (row .entry)) ≡ Some e) ⌝ }
+        ensures means { λ _. ⌜ Means (placesOf (now (self .entry))) (rowsOf (now (self .entry))) (now (row .entry)) (rowRefusal (placesOf (now (self .entry))) (rowsOf (now (self .entry))) (now (row .entry))) ⌝ }
+    {
+        if self.is_full() {
+            return Err(Refusal::Full { rows: MAX_ROWS });
+        }
+        let word = self.spell(row)?;
+        if let Some(row) = self.first_clash(&word) {
+            return Err(Refusal::Clash { row });
+        }
+        if self.is_sum(&word) {
+            return Err(Refusal::Sum { row: self.rows + 1 });
+        }
+        Ok(word)
+    }
+
+    // The letters of a row's text that can be added.
+    pub(super) fn check_row(&self, row: &[u8]) -> Result<Letters, Refusal>
+        ensures cases { λ r. ⌜ Cases r
+            (λ w. Passed (placesOf (now (self .entry))) (rowsOf (now (self .entry))) (now (row .entry)) (w .numbers))
+            (λ e. rowRefusal (placesOf (now (self .entry))) (rowsOf (now (self .entry))) (now (row .entry)) ≡ Some e) ⌝ }
+        ensures means { λ _. ⌜ Means (placesOf (now (self .entry))) (rowsOf (now (self .entry))) (now (row .entry)) (rowRefusal (placesOf (now (self .entry))) (rowsOf (now (self .entry))) (now (row .entry))) ⌝ }
+    {
+        self.check_by(row)
+    }
+
+    // The syndrome of a word.
+    fn tell(&self, word: &Letters) -> Syndrome
+        ensures { λ r. ⌜ bitsOf r ≡ syndrome (rowsOf (now (self .entry))) (front (placesOf (now (self .entry))) (now (word .entry) .numbers)) ⌝ }
+    {
+        Syndrome::of(self.rows, self.odd_rows(word))
+    }
+
+    // The syndrome of an error that is given as text.
+    pub fn syndrome(&self, error: &[u8]) -> Result<Syndrome, Refusal>
+        ensures { λ r. ⌜ Told (now (self .entry)) (now (error .entry)) r ⌝ }
+    {
+        let word = self.spell(error)?;
+        Ok(self.tell(&word))
+    }
+}
