@@ -8,6 +8,7 @@ pub use code::Code;
 pub use code::CodeEq;
 pub use refusal::Refusal;
 pub use refusal::RefusalDebug;
+pub use refusal::RefusalDisplay;
 pub use refusal::RefusalPartialEq;
 pub use syndrome::Syndrome;
 pub use syndrome::SyndromeDisplay;

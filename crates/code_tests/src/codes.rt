@@ -1,12 +1,17 @@
-// What a code answers once it is built.
+// Codes: what they answer once built, what they refuse, and the largest.
 use code::Code;
 use code::CodeEq;
 use code::Refusal;
 use code::RefusalDebug;
+use pauli::MAX_PLACES;
+use pauli::MAX_ROWS;
+use pauli::letter_byte;
 use std::test::*;
 
+// ---- what a code answers once it is built
+
 // The code of so many places with these rows.
-pub fn built(places: usize, rows: &[&[u8]]) -> Result<Code, Refusal> {
+fn built(places: usize, rows: &[&[u8]]) -> Result<Code, Refusal> {
     let mut code = Code::bare();
     code.begin(places)?;
     for row in rows {
@@ -16,7 +21,7 @@ pub fn built(places: usize, rows: &[&[u8]]) -> Result<Code, Refusal> {
 }
 
 // The code of five places that has a single error of one letter for each syndrome.
-pub fn five() -> Result<Code, Refusal> {
+fn five() -> Result<Code, Refusal> {
     built(5, &[b"ZXIII", b"XZXII", b"IXZXI", b"IIXZX"])
 }
 
@@ -48,7 +53,7 @@ fn rows_are_read_back_letter_by_letter() -> Result<(), Fail> {
     let rows = [b"ZXIII", b"XZXII", b"IXZXI", b"IIXZX"];
     for (r, row) in rows.iter().enumerate() {
         for (i, byte) in row.iter().enumerate() {
-            check_eq(pauli::letter_byte(code.letter_at(r, i)), *byte)?;
+            check_eq(letter_byte(code.letter_at(r, i)), *byte)?;
         }
     }
     check_eq(code.letter_at(4, 0), 0)?;
@@ -84,11 +89,11 @@ fn every_syndrome_of_the_five_place_code_is_explained() -> Result<(), Fail> {
     let mut seen = 0u64;
     for error in 0..1024u16 {
         let text = [
-            pauli::letter_byte((error & 3) as u8),
-            pauli::letter_byte((error >> 2 & 3) as u8),
-            pauli::letter_byte((error >> 4 & 3) as u8),
-            pauli::letter_byte((error >> 6 & 3) as u8),
-            pauli::letter_byte((error >> 8 & 3) as u8),
+            letter_byte((error & 3) as u8),
+            letter_byte((error >> 2 & 3) as u8),
+            letter_byte((error >> 4 & 3) as u8),
+            letter_byte((error >> 6 & 3) as u8),
+            letter_byte((error >> 8 & 3) as u8),
         ];
         seen |= 1u64 << (syndrome_number(&code, &text)? & 15);
     }
@@ -102,4 +107,181 @@ fn equal_codes_have_the_same_rows_in_the_same_order() -> Result<(), Fail> {
     check(built(2, &[b"XX"])? != built(2, &[b"XX", b"ZZ"])?)?;
     check(built(1, &[])? != built(2, &[])?)?;
     check(built(1, &[])? == Code::bare())
+}
+
+// ---- refusals, with number and place
+
+// The number and place of the refusal of a row, after which the code is as before.
+fn refused(code: &mut Code, row: &[u8]) -> Result<(u8, usize), Fail> {
+    let before = *code;
+    match code.add_row(row) {
+        Ok(()) => Err(Fail::new("the row was taken")),
+        Err(refusal) => {
+            check(*code == before)?;
+            Ok((refusal.number(), refusal.place()))
+        }
+    }
+}
+
+// The same for a number of places.
+fn no_code(code: &mut Code, places: usize) -> Result<(u8, usize), Fail> {
+    let before = *code;
+    match code.begin(places) {
+        Ok(()) => Err(Fail::new("the code was begun")),
+        Err(refusal) => {
+            check(*code == before)?;
+            Ok((refusal.number(), refusal.place()))
+        }
+    }
+}
+
+#[test]
+fn no_code_has_no_places_or_too_many() -> Result<(), Fail> {
+    let mut code = five()?;
+    check_eq(no_code(&mut code, 0)?, (1, 0))?;
+    check_eq(no_code(&mut code, MAX_PLACES + 1)?, (1, MAX_PLACES + 1))?;
+    check_eq(no_code(&mut code, usize::MAX)?, (1, usize::MAX))?;
+    code.begin(1)?;
+    code.begin(MAX_PLACES)?;
+    check_eq(code.places(), MAX_PLACES)?;
+    check_eq(code.rows(), 0)
+}
+
+#[test]
+fn a_row_is_as_long_as_the_code_has_places() -> Result<(), Fail> {
+    let mut code = five()?;
+    check_eq(refused(&mut code, b"")?, (3, 0))?;
+    check_eq(refused(&mut code, b"IIII")?, (3, 4))?;
+    check_eq(refused(&mut code, b"IIIIII")?, (3, 6))?;
+    check_eq(refused(&mut code, &[b'?'; 200])?, (3, 200)).note(
+        "the length comes before the letters",
+    )
+}
+
+#[test]
+fn a_row_has_letters_only() -> Result<(), Fail> {
+    let mut code = five()?;
+    check_eq(refused(&mut code, b"IIxIi")?, (4, 3))?;
+    check_eq(refused(&mut code, b"IIII0")?, (4, 5))?;
+    check_eq(refused(&mut code, &[b'I', 0xc3, 0x89, b'I', b'I'])?, (4, 2))?;
+    check_eq(refused(&mut code, &[0xff; 5])?, (4, 1))?;
+    check_eq(refused(&mut code, b"ZZZZ?")?, (4, 5)).note("letters come before the rows")
+}
+
+#[test]
+fn a_row_commutes_with_every_row() -> Result<(), Fail> {
+    let mut code = five()?;
+    check_eq(refused(&mut code, b"IIIIZ")?, (5, 4))?;
+    check_eq(refused(&mut code, b"XIIII")?, (5, 1))?;
+    check_eq(refused(&mut code, b"IIZII")?, (5, 2)).note(
+        "rows 2 and 4 clash, and 2 is the lowest",
+    )?;
+    check_eq(refused(&mut code, b"IIYII")?, (5, 2))?;
+    code.add_row(b"IIIIX")?;
+    check_eq(code.rows(), 5)
+}
+
+#[test]
+fn a_row_is_no_sum_of_rows() -> Result<(), Fail> {
+    let mut code = five()?;
+    check_eq(refused(&mut code, b"IIIII")?, (6, 5))?;
+    check_eq(refused(&mut code, b"ZXIII")?, (6, 5))?;
+    check_eq(refused(&mut code, b"YYXII")?, (6, 5)).note("the first two rows")?;
+    check_eq(refused(&mut code, b"ZXXZX")?, (6, 5)).note("the first and the last row")?;
+    code.begin(3)?;
+    check_eq(refused(&mut code, b"III")?, (6, 1)).note("the sum of no rows")
+}
+
+// Whether a refusal says that the row clashes or is a sum.
+fn clash_or_sum(refusal: Refusal) -> bool {
+    refusal.number() == 5 || refusal.number() == 6
+}
+
+#[test]
+fn a_code_with_as_many_rows_as_places_takes_no_more() -> Result<(), Fail> {
+    let mut code = built(2, &[b"XX", b"ZZ"])?;
+    for a in 0..4u8 {
+        for b in 0..4u8 {
+            match code.add_row(&[letter_byte(a), letter_byte(b)]) {
+                Ok(()) => return Err(Fail::new("a row more")),
+                Err(refusal) => check(clash_or_sum(refusal))?,
+            }
+        }
+    }
+    check_eq(code.rows(), 2)
+}
+
+#[test]
+fn an_error_is_a_word_of_the_code() -> Result<(), Fail> {
+    let code = five()?;
+    match code.syndrome(b"XXXXXX") {
+        Ok(_) => return Err(Fail::new("too long")),
+        Err(refusal) => check_eq((refusal.number(), refusal.place()), (3, 6))?,
+    }
+    match code.syndrome(&[b'X', 0x80, b'X', b'?', b'X']) {
+        Ok(_) => Err(Fail::new("no letters")),
+        Err(refusal) => check_eq((refusal.number(), refusal.place()), (4, 2)),
+    }
+}
+
+// ---- the most places and rows
+
+// The text of a word that has one letter.
+fn single(index: usize, letter: u8) -> [u8; MAX_PLACES] {
+    let mut text = [b'I'; MAX_PLACES];
+    if index < MAX_PLACES {
+        text[index] = letter;
+    }
+    text
+}
+
+// The code of the most places with an X of its own in each of the most rows.
+fn largest() -> Result<Code, Fail> {
+    let mut code = Code::bare();
+    code.begin(MAX_PLACES)?;
+    for k in 0..MAX_ROWS {
+        code.add_row(&single(k, b'X'))?;
+    }
+    Ok(code)
+}
+
+#[test]
+fn a_full_code_refuses_every_row() -> Result<(), Fail> {
+    let mut code = largest()?;
+    check_eq(code.rows(), MAX_ROWS)?;
+    check_eq(
+        refused(&mut code, &single(MAX_PLACES - 1, b'X'))?,
+        (2, MAX_ROWS),
+    )?;
+    check_eq(refused(&mut code, &single(0, b'Z'))?, (2, MAX_ROWS))?;
+    check_eq(refused(&mut code, b"")?, (2, MAX_ROWS))?;
+    check_eq(refused(&mut code, &[0xff; 3])?, (2, MAX_ROWS))
+}
+
+#[test]
+fn the_last_row_has_the_last_bit() -> Result<(), Fail> {
+    let code = largest()?;
+    let last = MAX_ROWS - 1;
+    let syndrome = code.syndrome(&single(last, b'Z'))?;
+    for row in 0..MAX_ROWS + 1 {
+        check_eq(syndrome.bit(row), row == last)?;
+    }
+    check_eq(code.against(last, 2), 1u64 << last)?;
+    check_eq(code.letter_at(last, last), 1)
+}
+
+#[test]
+fn the_last_place_counts() -> Result<(), Fail> {
+    let mut code = Code::bare();
+    code.begin(MAX_PLACES)?;
+    code.add_row(&single(MAX_PLACES - 1, b'Y'))?;
+    check_eq(code.letter_at(0, MAX_PLACES - 1), 2)?;
+    check_eq(refused(&mut code, &single(MAX_PLACES - 1, b'Z'))?, (5, 1))?;
+    check_eq(refused(&mut code, &single(MAX_PLACES - 1, b'Y'))?, (6, 2))?;
+    check_eq(
+        refused(&mut code, &single(MAX_PLACES - 1, b'y'))?,
+        (4, MAX_PLACES),
+    )?;
+    code.add_row(&single(MAX_PLACES - 2, b'Z'))?;
+    check_eq(code.rows(), 2)
 }

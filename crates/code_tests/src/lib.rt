@@ -3,7 +3,3 @@
 mod codes;
 #[cfg(test)]
 mod letters;
-#[cfg(test)]
-mod limits;
-#[cfg(test)]
-mod refusals;
