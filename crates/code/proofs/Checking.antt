@@ -29,7 +29,7 @@ use Rattle.code.specs.Table.{Unused, wordsOf}
 use Rattle.code.specs.declared.code.Code.{Code}
 use Rattle.code.specs.Codes.{placesOf, rowsOf, front, Admitted}
 use Rattle.code.specs.Refusals.{textRefusal, rowRefusal}
-use Rattle.code.specs.Calls.{Spelt, Fits, Passed}
+use Rattle.code.specs.Checks.{Spelt, Fits, Passed}
 use Rattle.code.proofs.Sounds.{added-rows, added-long, added-within, added-unused, added-commute, added-free}
 use Rattle.code.proofs.Refusing.{when-spelt}
 

@@ -16,7 +16,7 @@ use Rattle.pauli.proofs.Firsts.{first-none}
 use Rattle.code.specs.declared.code.Code.{Code}
 use Rattle.code.specs.declared.refusal.Refusal.the-variants.{Sum}
 use Rattle.code.specs.Codes.{rowsOf, front}
-use Rattle.code.specs.Calls.{Spelt, Passed}
+use Rattle.code.specs.Checks.{Spelt, Passed}
 use Rattle.code.specs.Lemmas.{RowLaws}
 use Rattle.code.proofs.Sounds.{syndrome-at}
 use Rattle.code.proofs.Checking.{rows-count, rows-long, rows-few, sum-none}

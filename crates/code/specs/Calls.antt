@@ -1,20 +1,17 @@
 -- What each call answers and leaves. Assumes nothing.
-use Prim.Native.Nat.{ℕ, _<_}
+use Prim.Native.Nat.{ℕ}
 use mathlib.Core.Path.{_≡_}
-use mathlib.Core.Bool.{Bool, true, false}
+use mathlib.Core.Bool.{true, false}
 use mathlib.Core.List.{List, [], _∷_, _++_}
-use lib.ListN.{length, getD}
-use Rattle.std.specs.declared.option.Option.{Option}
 use Rattle.std.specs.declared.option.Option.the-variants.{Some, None}
 use Rattle.std.specs.declared.result.Result.{Result}
 use Rattle.std.specs.Results.{isOk, Cases}
-use Rattle.pauli.specs.Limits.{maxRows}
-use Rattle.pauli.specs.Words.{Word, star, select, syndrome}
+use Rattle.pauli.specs.Words.{syndrome}
 use Rattle.pauli.specs.Text.{wordOf}
 use Rattle.code.specs.declared.code.Code.{Code}
 use Rattle.code.specs.declared.refusal.Refusal.{Refusal}
 use Rattle.code.specs.declared.syndrome.Syndrome.{Syndrome}
-use Rattle.code.specs.Codes.{placesOf, rowsOf, bitsOf, front}
+use Rattle.code.specs.Codes.{placesOf, rowsOf, bitsOf}
 use Rattle.code.specs.Refusals.{verdict, beginRefusal, textRefusal, rowRefusal}
 use Rattle.code.specs.Meanings.{Means}
 
@@ -25,7 +22,7 @@ pub record Begun (n : ℕ) (before : Code) (r : Result (Unit {0}) Refusal) (afte
   pub rows : isOk r ≡ true → rowsOf after ≡ []
   pub kept : isOk r ≡ false → after ≡ before
 
--- add row: the rows before and then this word, or a refusal that leaves the code as it was; and what the answer means
+-- add row: the rows before and then this word, or a refusal that leaves the code as it was; and what that refusal, or none, means
 pub record Added (text : List ℕ) (before : Code) (r : Result (Unit {0}) Refusal) (after : Code) : Type 0 where
   pub answer : r ≡ verdict (rowRefusal (placesOf before) (rowsOf before) text)
   pub means : Means (placesOf before) (rowsOf before) text (rowRefusal (placesOf before) (rowsOf before) text)
@@ -39,23 +36,3 @@ Told code text r =
     Cases r
     (λ s. (textRefusal (placesOf code) text ≡ None) × (bitsOf s ≡ syndrome (rowsOf code) (wordOf text)))
     (λ e. textRefusal (placesOf code) text ≡ Some e)
-
--- a text of n letters, and a table with their numbers
-pub record Spelt (n : ℕ) (text numbers : List ℕ) : Type 0 where
-  pub long : length text ≡ n
-  pub wide : length (front n numbers) ≡ n
-  pub none : textRefusal n text ≡ None
-  pub read : front n numbers ≡ wordOf text
-
--- a word that can be put after the rows
-pub record Fits (n : ℕ) (rows : List Word) (w : Word) : Type 0 where
-  pub room : length rows < maxRows
-  pub long : length w ≡ n
-  pub commutes : (i : ℕ) → star (getD rows i []) w ≡ false
-  pub new : (ks : List Bool) → select n ks rows ≡ w → ⊥
-
--- a row's text that is not refused, and a table with its letters' numbers
-pub record Passed (n : ℕ) (rows : List Word) (text numbers : List ℕ) : Type 0 where
-  pub fits : Fits n rows (front n numbers)
-  pub read : front n numbers ≡ wordOf text
-  pub none : rowRefusal n rows text ≡ None

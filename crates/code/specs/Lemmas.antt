@@ -19,7 +19,7 @@ use Rattle.code.specs.declared.refusal.Refusal.{Refusal}
 use Rattle.code.specs.declared.refusal.Refusal.the-variants.{Full, Clash, Sum}
 use Rattle.code.specs.Refusals.{textRefusal, rowRefusal}
 use Rattle.code.specs.Meanings.{Means}
-use Rattle.code.specs.Calls.{Spelt, Passed}
+use Rattle.code.specs.Checks.{Spelt, Passed}
 
 -- the list of the first r bits of a mask has bit j at index j, and false past its end
 pub record ReadLaws : Type 0 where

@@ -13,9 +13,28 @@ use Rattle.std.proofs.shelf.Lists.{getD-append-left}
 use Rattle.pauli.specs.Words.{Word, xor, add, star, blank, select, syndrome, Long, isBlank}
 use Rattle.pauli.specs.Laws.{addIf}
 use Rattle.independence.specs.Independence.{Independent, Explained}
-use Rattle.independence.specs.Pivots.{Pivot, pivotRows, residue, coefficients, pivot, pivots, independentAfter, independent, explain, IndependenceDecided}
+use Rattle.independence.specs.Pivots.{Pivot, residue, coefficients, pivot, pivots}
 use Rattle.pauli.proofs.WordLaws.{xor-false, xor-self, xor-assoc, length-blank, length-addIf, star-addIf-right}
-use Rattle.independence.proofs.Pivots.{Commutes, Sound, pivot-sound, pivots-sound, clashes-partner, blank-sums, other-sums-not}
+use Rattle.independence.proofs.Pivots.{pivotRows, Commutes, Sound, pivot-sound, pivots-sound, clashes-partner, blank-sums, other-sums-not}
+
+-- whether no row is a sum of the rows before it
+abbrev independentAfter : List Pivot → List Word → Bool
+independentAfter ps [] = true
+independentAfter ps (r ∷ rows) = not (isBlank (residue ps r)) && independentAfter (pivot ps r ∷ ps) rows
+
+-- the test for independent rows
+abbrev independent : List Word → Bool
+independent rows = independentAfter [] rows
+
+-- a word with the bits as its syndrome over the pivots' rows, if each row clashes with its partner
+abbrev explain : ℕ → List Pivot → List Bool → Word
+explain n [] b = blank n
+explain n (p ∷ ps) [] = blank n
+explain n (p ∷ ps) (k ∷ b) = let u = explain n ps b in addIf (xor k (star (p .row) u)) (p .partner) u
+
+-- the test for independent rows is right
+abbrev IndependenceDecided : Type 0
+IndependenceDecided = (n : ℕ) (rows : List Word) → Long n rows → Independent n rows ↔ (independent rows ≡ true)
 
 -- no row of the second list is a sum of the rows before it, where the first list stands before all
 abbrev After : ℕ → List Word → List Word → Type 0
@@ -71,7 +90,7 @@ passed n before (r ∷ rows) hb h t (suc k) ks l e =
     (second-true (isBlank (residue (pivots [] before) r)) (independentAfter (pivot (pivots [] before) r ∷ pivots [] before) rows) t))
     k ks (omega arith) (ap (λ rs. select n ks rs) (append-assoc before (r ∷ []) (take k rows)) ∙ e)
 
-pub independence-decided : IndependenceDecided
+independence-decided : IndependenceDecided
 independence-decided n rows h = (passes n [] rows tt h, passed n [] rows tt h)
 
 -- one more row that is no sum of the others

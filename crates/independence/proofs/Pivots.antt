@@ -10,8 +10,13 @@ use native.Mathlib.Omega.{arith}
 use lib.ListN.{length}
 use Rattle.pauli.specs.Words.{Word, xor, add, star, blank, select, syndrome, Long, isBlank}
 use Rattle.pauli.specs.Laws.{chosen, spot, addIf}
-use Rattle.independence.specs.Pivots.{Pivot, pivotRows, residue, coefficients, cleared, pivot, pivots, addends, witness, Decided, SumsDecided}
+use Rattle.independence.specs.Pivots.{Pivot, residue, coefficients, cleared, pivot, pivots, addends, witness, Decided, SumsDecided}
 use Rattle.pauli.proofs.WordLaws.{xor-false, add-comm, add-assoc, add-self, add-blank, length-add, length-blank, length-addIf, length-select, length-spot, star-addIf, star-addIf-right, star-blank, star-spot, isBlank-is}
+
+-- the rows, the newest first as the pivots are
+abbrev pub pivotRows : List Pivot → List Word
+pivotRows [] = []
+pivotRows (p ∷ ps) = p .row ∷ pivotRows ps
 
 -- the word commutes with each row
 abbrev pub Commutes : List Word → Word → Type 0

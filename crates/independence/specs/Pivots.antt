@@ -1,27 +1,20 @@
--- Elimination over words, as it computes: whether a word is a sum of rows, and an error for each syndrome. Assumes nothing.
+-- Elimination over words, as it computes: whether a word is a sum of rows, and of which. Assumes nothing.
 use mathlib.Core.Path.{_≡_}
-use mathlib.Core.Logic.{_↔_}
-use mathlib.Core.Bool.{Bool, true, false, cond, not, _&&_}
+use mathlib.Core.Bool.{Bool, true, false, cond}
 use mathlib.Core.List.{List, [], _∷_}
 use Rattle.std.specs.declared.option.Option.{Option}
 use Rattle.std.specs.declared.option.Option.the-variants.{Some, None}
 use Rattle.std.specs.Options.{isSome}
 use Prim.Native.Nat.{ℕ}
 use lib.ListN.{length}
-use Rattle.pauli.specs.Words.{Word, xor, add, star, blank, isBlank, Long, select}
+use Rattle.pauli.specs.Words.{Word, star, isBlank, Long, select}
 use Rattle.pauli.specs.Laws.{addIf, spot}
-use Rattle.independence.specs.Independence.{Independent}
 
 -- A row with a partner, a word that commutes with all earlier rows. It does not commute with this row,
 -- unless the row is a sum of the earlier ones; then it is blank.
 pub record Pivot : Type 0 where
   pub row : Word
   pub partner : Word
-
--- the rows, the newest first as the pivots are
-abbrev pub pivotRows : List Pivot → List Word
-pivotRows [] = []
-pivotRows (p ∷ ps) = p .row ∷ pivotRows ps
 
 -- the word with rows added until it commutes with every partner
 abbrev pub residue : List Pivot → Word → Word
@@ -61,21 +54,6 @@ isSum rows w = isSome (addends rows w)
 abbrev pub witness : List Word → Word → Word
 witness rows w = pivot (pivots [] rows) w .partner
 
--- whether no row is a sum of the rows before it
-abbrev pub independentAfter : List Pivot → List Word → Bool
-independentAfter ps [] = true
-independentAfter ps (r ∷ rows) = not (isBlank (residue ps r)) && independentAfter (pivot ps r ∷ ps) rows
-
--- the test for independent rows
-abbrev pub independent : List Word → Bool
-independent rows = independentAfter [] rows
-
--- a word with the bits as its syndrome over the pivots' rows, if each row clashes with its partner
-abbrev pub explain : ℕ → List Pivot → List Bool → Word
-explain n [] b = blank n
-explain n (p ∷ ps) [] = blank n
-explain n (p ∷ ps) (k ∷ b) = let u = explain n ps b in addIf (xor k (star (p .row) u)) (p .partner) u
-
 -- What addends answers is true of every list of rows, independent or not.
 -- An answer is a sum; where there is None, a word commutes with all rows and not with this one, so that no choice adds to it.
 pub record Decided (n : ℕ) (rows : List Word) (w : Word) : Type 0 where
@@ -87,7 +65,3 @@ pub record Decided (n : ℕ) (rows : List Word) (w : Word) : Type 0 where
 -- elimination decides sums of all rows
 abbrev pub SumsDecided : Type 0
 SumsDecided = (n : ℕ) (rows : List Word) (w : Word) → Long n rows → length w ≡ n → Decided n rows w
-
--- the test for independent rows is right
-abbrev pub IndependenceDecided : Type 0
-IndependenceDecided = (n : ℕ) (rows : List Word) → Long n rows → Independent n rows ↔ (independent rows ≡ true)

@@ -3,8 +3,9 @@ ghost use mathlib.Core.Path.{_≡_};
 ghost use mathlib.Core.List.{[], _∷_, _++_};
 ghost use Prim.Native.Nat.{_<_, _≤_};
 ghost use Rattle.pauli.specs.Limits.{maxPlaces};
-ghost use Rattle.code.specs.Codes.{placesOf, rowsOf, front};
-ghost use Rattle.code.specs.Calls.{Begun, Added, Fits};
+ghost use Rattle.code.specs.Codes.{placesOf, rowsOf};
+ghost use Rattle.code.specs.Calls.{Begun, Added};
+ghost use Rattle.code.specs.Checks.{wordIn, Fits};
 use super::Code;
 use crate::columns::Columns;
 use crate::refusal::Refusal;
@@ -46,9 +47,9 @@ impl Code {
 
     // Puts a word that fits after the rows, one column at a time.
     fn write_row(&mut self, word: &Letters)
-        requires { ⌜ Fits (placesOf (now self)) (rowsOf (now self)) (front (placesOf (now self)) (now word .numbers)) ⌝ }
+        requires { ⌜ Fits (placesOf (now self)) (rowsOf (now self)) (wordIn (now self) (now word)) ⌝ }
         ensures places { λ _. ⌜ placesOf (now (self .exit)) ≡ placesOf (now (self .entry)) ⌝ }
-        ensures rows { λ _. ⌜ rowsOf (now (self .exit)) ≡ rowsOf (now (self .entry)) ++ front (placesOf (now (self .entry))) (now (word .entry) .numbers) ∷ [] ⌝ }
+        ensures rows { λ _. ⌜ rowsOf (now (self .exit)) ≡ rowsOf (now (self .entry)) ++ wordIn (now (self .entry)) (now (word .entry)) ∷ [] ⌝ }
     {
         self.columns.put_row(self.rows, self.places, word);
         self.rows += 1;

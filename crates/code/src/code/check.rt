@@ -3,19 +3,16 @@ ghost use mathlib.Core.Path.{_≡_};
 ghost use Prim.Native.Nat.{_≤_};
 ghost use lib.Dec.{leb};
 ghost use lib.ListN.{length};
-ghost use Rattle.std.specs.declared.option.Option.the-variants.{Some};
 ghost use Rattle.std.specs.Options.{isSome};
-ghost use Rattle.std.specs.Results.{Cases};
 ghost use Rattle.pauli.specs.Limits.{maxRows};
 ghost use Rattle.pauli.specs.Words.{syndrome};
 ghost use Rattle.pauli.specs.Text.{first};
 ghost use Rattle.independence.specs.Pivots.{isSum};
 ghost use Rattle.elimination.specs.Masks.{setOf};
-ghost use Rattle.code.specs.Codes.{placesOf, rowsOf, front, bitsOf};
-ghost use Rattle.code.specs.Refusals.{textRefusal, rowRefusal};
-ghost use Rattle.code.specs.Meanings.{Means};
+ghost use Rattle.code.specs.Codes.{placesOf, rowsOf, bitsOf};
 ghost use Rattle.code.specs.Lemmas.{RowLaws};
-ghost use Rattle.code.specs.Calls.{Spelt, Passed, Told};
+ghost use Rattle.code.specs.Calls.{Told};
+ghost use Rattle.code.specs.Checks.{wordIn, SpeltOr, PassedOr, Meant};
 use super::Code;
 use crate::refusal::Refusal;
 use crate::syndrome::Syndrome;
@@ -35,9 +32,7 @@ impl Code {
 
     // The letters of a text of the code's length.
     fn spell(&self, text: &[u8]) -> Result<Letters, Refusal>
-        ensures { λ r. ⌜ Cases r
-            (λ w. Spelt (placesOf (now (self .entry))) (now (text .entry)) (w .numbers))
-            (λ e. textRefusal (placesOf (now (self .entry))) (now (text .entry)) ≡ Some e) ⌝ }
+        ensures { λ r. ⌜ SpeltOr (now (self .entry)) (now (text .entry)) r ⌝ }
     {
         if text.len() != self.places {
             return Err(Refusal::Length { length: text.len() });
@@ -50,23 +45,23 @@ impl Code {
 
     // The set of rows that do not commute with a word.
     fn odd_rows(&self, word: &Letters) -> u64
-        ensures set { λ r. ⌜ r ≡ setOf (syndrome (rowsOf (now (self .entry))) (front (placesOf (now (self .entry))) (now (word .entry) .numbers))) ⌝ }
-        ensures few { λ _. ⌜ length (syndrome (rowsOf (now (self .entry))) (front (placesOf (now (self .entry))) (now (word .entry) .numbers))) ≤ maxRows ⌝ }
+        ensures set { λ r. ⌜ r ≡ setOf (syndrome (rowsOf (now (self .entry))) (wordIn (now (self .entry)) (now (word .entry)))) ⌝ }
+        ensures few { λ _. ⌜ length (syndrome (rowsOf (now (self .entry))) (wordIn (now (self .entry)) (now (word .entry)))) ≤ maxRows ⌝ }
     {
         self.columns.clashes(self.places, word)
     }
 
     // The lowest row, from 1, that does not commute with a word.
     fn first_clash(&self, word: &Letters) -> Option<usize>
-        ensures { λ r. ⌜ r ≡ first (syndrome (rowsOf (now (self .entry))) (front (placesOf (now (self .entry))) (now (word .entry) .numbers))) ⌝ }
+        ensures { λ r. ⌜ r ≡ first (syndrome (rowsOf (now (self .entry))) (wordIn (now (self .entry)) (now (word .entry)))) ⌝ }
     {
         lowest(self.odd_rows(word))
     }
 
     // Rows that add to a word, where it is a sum of rows.
     fn summands(&self, word: &Letters) -> Option<u64>
-        requires { ⌜ length (front (placesOf (now self)) (now word .numbers)) ≡ placesOf (now self) ⌝ }
-        ensures { λ r. ⌜ isSome r ≡ isSum (rowsOf (now (self .entry))) (front (placesOf (now (self .entry))) (now (word .entry) .numbers)) ⌝ }
+        requires { ⌜ length (wordIn (now self) (now word)) ≡ placesOf (now self) ⌝ }
+        ensures { λ r. ⌜ isSome r ≡ isSum (rowsOf (now (self .entry))) (wordIn (now (self .entry)) (now (word .entry))) ⌝ }
     {
         sum_of(
             &self.columns.table[..self.places],
@@ -76,8 +71,8 @@ impl Code {
 
     // Whether a word is a sum of the rows.
     fn is_sum(&self, word: &Letters) -> bool
-        requires { ⌜ length (front (placesOf (now self)) (now word .numbers)) ≡ placesOf (now self) ⌝ }
-        ensures { λ r. ⌜ r ≡ isSum (rowsOf (now (self .entry))) (front (placesOf (now (self .entry))) (now (word .entry) .numbers)) ⌝ }
+        requires { ⌜ length (wordIn (now self) (now word)) ≡ placesOf (now self) ⌝ }
+        ensures { λ r. ⌜ r ≡ isSum (rowsOf (now (self .entry))) (wordIn (now (self .entry)) (now (word .entry))) ⌝ }
     {
         self.summands(word).is_some()
     }
@@ -85,10 +80,8 @@ impl Code {
     // The checks in their order, by what each tells of the refusal.
     fn check_by(&self, row: &[u8]) -> Result<Letters, Refusal>
         requires { ⌜ RowLaws ⌝ }
-        ensures cases { λ r. ⌜ Cases r
-            (λ w. Passed (placesOf (now (self .entry))) (rowsOf (now (self .entry))) (now (row .entry)) (w .numbers))
-            (λ e. rowRefusal (placesOf (now (self .entry))) (rowsOf (now (self .entry))) (now (row .entry)) ≡ Some e) ⌝ }
-        ensures means { λ _. ⌜ Means (placesOf (now (self .entry))) (rowsOf (now (self .entry))) (now (row .entry)) (rowRefusal (placesOf (now (self .entry))) (rowsOf (now (self .entry))) (now (row .entry))) ⌝ }
+        ensures cases { λ r. ⌜ PassedOr (now (self .entry)) (now (row .entry)) r ⌝ }
+        ensures means { λ _. ⌜ Meant (now (self .entry)) (now (row .entry)) ⌝ }
     {
         if self.is_full() {
             return Err(Refusal::Full { rows: MAX_ROWS });
@@ -105,17 +98,15 @@ impl Code {
 
     // The letters of a row's text that can be added.
     pub(super) fn check_row(&self, row: &[u8]) -> Result<Letters, Refusal>
-        ensures cases { λ r. ⌜ Cases r
-            (λ w. Passed (placesOf (now (self .entry))) (rowsOf (now (self .entry))) (now (row .entry)) (w .numbers))
-            (λ e. rowRefusal (placesOf (now (self .entry))) (rowsOf (now (self .entry))) (now (row .entry)) ≡ Some e) ⌝ }
-        ensures means { λ _. ⌜ Means (placesOf (now (self .entry))) (rowsOf (now (self .entry))) (now (row .entry)) (rowRefusal (placesOf (now (self .entry))) (rowsOf (now (self .entry))) (now (row .entry))) ⌝ }
+        ensures cases { λ r. ⌜ PassedOr (now (self .entry)) (now (row .entry)) r ⌝ }
+        ensures means { λ _. ⌜ Meant (now (self .entry)) (now (row .entry)) ⌝ }
     {
         self.check_by(row)
     }
 
     // The syndrome of a word.
     fn tell(&self, word: &Letters) -> Syndrome
-        ensures { λ r. ⌜ bitsOf r ≡ syndrome (rowsOf (now (self .entry))) (front (placesOf (now (self .entry))) (now (word .entry) .numbers)) ⌝ }
+        ensures { λ r. ⌜ bitsOf r ≡ syndrome (rowsOf (now (self .entry))) (wordIn (now (self .entry)) (now (word .entry))) ⌝ }
     {
         Syndrome::of(self.rows, self.odd_rows(word))
     }
