@@ -10,8 +10,8 @@ use Rattle.std.specs.declared.result.Result.the-variants.{Ok, Err}
 use Rattle.std.specs.Reads.{Numeral, value, afterPlus}
 use Rattle.std.specs.Text.{Utf8}
 use Rattle.pauli.specs.Limits.{maxPlaces}
-use Rattle.code.specs.declared.refusal.Refusal.{Refusal}
-use Rattle.code.specs.declared.syndrome.Syndrome.{Syndrome}
+use Rattle.answers.specs.declared.refusal.Refusal.{Refusal}
+use Rattle.answers.specs.declared.syndrome.Syndrome.{Syndrome}
 use Rattle.code.specs.Codes.{rowsOf}
 use Rattle.code.specs.Calls.{Begun, Added, Told}
 use Rattle.admit.specs.declared.reply.Reply.{Reply}

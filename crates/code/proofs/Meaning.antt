@@ -17,8 +17,8 @@ use Rattle.pauli.specs.Text.{fault, first, isFault, wordOf}
 use Rattle.pauli.proofs.Firsts.{first-true, first-none}
 use Rattle.pauli.proofs.WordLaws.{star-counts}
 use Rattle.independence.specs.Pivots.{isSum}
-use Rattle.code.specs.declared.refusal.Refusal.{Refusal}
-use Rattle.code.specs.declared.refusal.Refusal.the-variants.{Full, Length, NoLetter, Clash, Sum}
+use Rattle.answers.specs.declared.refusal.Refusal.{Refusal}
+use Rattle.answers.specs.declared.refusal.Refusal.the-variants.{Full, Length, NoLetter, Clash, Sum}
 use Rattle.code.specs.Refusals.{orElse, refusedIf, rowRefusal, textRefusal, clashRefusal, sumRefusal}
 use Rattle.code.specs.Meanings.{FirstFault, FirstClash, Chosen, Fresh, Means}
 use Rattle.code.proofs.Sounds.{syndrome-at}

@@ -14,7 +14,7 @@ use Rattle.pauli.specs.Text.{first, wordOf}
 use Rattle.independence.specs.Pivots.{isSum}
 use Rattle.pauli.proofs.Firsts.{first-none}
 use Rattle.code.specs.declared.code.Code.{Code}
-use Rattle.code.specs.declared.refusal.Refusal.the-variants.{Sum}
+use Rattle.answers.specs.declared.refusal.Refusal.the-variants.{Sum}
 use Rattle.code.specs.Codes.{rowsOf, front}
 use Rattle.code.specs.Checks.{Spelt, Passed}
 use Rattle.code.specs.Lemmas.{RowLaws}

@@ -14,8 +14,8 @@ use Rattle.pauli.specs.Limits.{maxRows}
 use Rattle.pauli.specs.Words.{Word, syndrome}
 use Rattle.pauli.specs.Text.{fault, first, wordOf}
 use Rattle.independence.specs.Pivots.{isSum}
-use Rattle.code.specs.declared.refusal.Refusal.{Refusal}
-use Rattle.code.specs.declared.refusal.Refusal.the-variants.{Full, Length, NoLetter, Clash, Sum}
+use Rattle.answers.specs.declared.refusal.Refusal.{Refusal}
+use Rattle.answers.specs.declared.refusal.Refusal.the-variants.{Full, Length, NoLetter, Clash, Sum}
 use Rattle.code.specs.Refusals.{orElse, refusedIf, fullRefusal, textRefusal, clashRefusal, sumRefusal, rowRefusal}
 
 module _ (n : ℕ) (text : List ℕ) where

@@ -9,9 +9,10 @@ use Rattle.std.specs.Results.{isOk, Cases}
 use Rattle.pauli.specs.Words.{syndrome}
 use Rattle.pauli.specs.Text.{wordOf}
 use Rattle.code.specs.declared.code.Code.{Code}
-use Rattle.code.specs.declared.refusal.Refusal.{Refusal}
-use Rattle.code.specs.declared.syndrome.Syndrome.{Syndrome}
-use Rattle.code.specs.Codes.{placesOf, rowsOf, bitsOf}
+use Rattle.answers.specs.declared.refusal.Refusal.{Refusal}
+use Rattle.answers.specs.declared.syndrome.Syndrome.{Syndrome}
+use Rattle.answers.specs.Syndromes.{bitsOf}
+use Rattle.code.specs.Codes.{placesOf, rowsOf}
 use Rattle.code.specs.Refusals.{verdict, beginRefusal, textRefusal, rowRefusal}
 use Rattle.code.specs.Meanings.{Means}
 

@@ -12,7 +12,7 @@ use Rattle.pauli.specs.Limits.{maxRows}
 use Rattle.pauli.specs.Words.{Word, star, select}
 use Rattle.pauli.specs.Text.{wordOf}
 use Rattle.code.specs.declared.code.Code.{Code}
-use Rattle.code.specs.declared.refusal.Refusal.{Refusal}
+use Rattle.answers.specs.declared.refusal.Refusal.{Refusal}
 use Rattle.code.specs.Codes.{placesOf, rowsOf, front}
 use Rattle.code.specs.Meanings.{Means}
 use Rattle.code.specs.Refusals.{textRefusal, rowRefusal}

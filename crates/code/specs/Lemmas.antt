@@ -3,7 +3,7 @@ use Prim.Native.Nat.{ℕ, _<_, _≤_, _+_}
 use mathlib.Core.Path.{_≡_}
 use mathlib.Core.Bool.{Bool, false, true}
 use lib.ListN.{getD, length}
-use Rattle.elimination.specs.Masks.{bit, bits, setOf}
+use Rattle.elimination.specs.Masks.{setOf}
 use mathlib.Core.List.{[], List}
 use Rattle.pauli.specs.Letters.{Letter, number}
 use Rattle.pauli.specs.Words.{at, syndrome}
@@ -15,16 +15,11 @@ use Rattle.std.specs.declared.option.Option.the-variants.{Some, None}
 use Rattle.pauli.specs.Limits.{maxRows}
 use Rattle.pauli.specs.Text.{first}
 use Rattle.independence.specs.Pivots.{isSum}
-use Rattle.code.specs.declared.refusal.Refusal.{Refusal}
-use Rattle.code.specs.declared.refusal.Refusal.the-variants.{Full, Clash, Sum}
+use Rattle.answers.specs.declared.refusal.Refusal.{Refusal}
+use Rattle.answers.specs.declared.refusal.Refusal.the-variants.{Full, Clash, Sum}
 use Rattle.code.specs.Refusals.{textRefusal, rowRefusal}
 use Rattle.code.specs.Meanings.{Means}
 use Rattle.code.specs.Checks.{Spelt, Passed}
-
--- the list of the first r bits of a mask has bit j at index j, and false past its end
-pub record ReadLaws : Type 0 where
-  pub within : (j r m : ℕ) → j < r → bit j m ≡ getD (bits r m) j false
-  pub past : (j r m : ℕ) → r ≤ j → false ≡ getD (bits r m) j false
 
 -- inside the code the column has the answer, and outside it is I, and no row clashes
 pub record ReadingLaws : Type 0 where

@@ -9,8 +9,8 @@ use Rattle.std.specs.declared.option.Option.the-variants.{Some, None}
 use Rattle.pauli.specs.Limits.{maxPlaces, maxRows}
 use Rattle.pauli.specs.Words.{Word, odd, clashCount, select}
 use Rattle.pauli.specs.Text.{isFault, wordOf}
-use Rattle.code.specs.declared.refusal.Refusal.{Refusal}
-use Rattle.code.specs.declared.refusal.Refusal.the-variants.{Places, Full, Length, NoLetter, Clash, Sum}
+use Rattle.answers.specs.declared.refusal.Refusal.{Refusal}
+use Rattle.answers.specs.declared.refusal.Refusal.the-variants.{Places, Full, Length, NoLetter, Clash, Sum}
 
 -- the byte at place p, from 1, names no letter, and each before it does
 pub record FirstFault (text : List ℕ) (p : ℕ) : Type 0 where

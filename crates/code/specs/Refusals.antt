@@ -1,4 +1,4 @@
--- What is refused, in order, and how a refusal is numbered. Assumes nothing.
+-- What is refused, in order. Assumes nothing.
 use Prim.Native.Nat.{ℕ, _+_}
 use mathlib.Core.Bool.{Bool, true, false, not}
 use mathlib.Core.List.{List}
@@ -13,26 +13,8 @@ use Rattle.pauli.specs.Limits.{maxPlaces, maxRows}
 use Rattle.pauli.specs.Words.{Word, syndrome}
 use Rattle.pauli.specs.Text.{fault, first, wordOf}
 use Rattle.independence.specs.Pivots.{isSum}
-use Rattle.code.specs.declared.refusal.Refusal.{Refusal}
-use Rattle.code.specs.declared.refusal.Refusal.the-variants.{Places, Full, Length, NoLetter, Clash, Sum}
-
--- the number of a refusal
-abbrev pub numberOf : Refusal → ℕ
-numberOf (Places n) = 1
-numberOf (Full n) = 2
-numberOf (Length n) = 3
-numberOf (NoLetter n) = 4
-numberOf (Clash n) = 5
-numberOf (Sum n) = 6
-
--- the place of a refusal
-abbrev pub placeOf : Refusal → ℕ
-placeOf (Places n) = n
-placeOf (Full n) = n
-placeOf (Length n) = n
-placeOf (NoLetter n) = n
-placeOf (Clash n) = n
-placeOf (Sum n) = n
+use Rattle.answers.specs.declared.refusal.Refusal.{Refusal}
+use Rattle.answers.specs.declared.refusal.Refusal.the-variants.{Places, Full, Length, NoLetter, Clash, Sum}
 
 -- the earlier refusal, or where there is none the later
 abbrev pub orElse : Option Refusal → Option Refusal → Option Refusal

@@ -6,7 +6,7 @@ ghost use Rattle.pauli.specs.Limits.{maxPlaces, maxRows};
 ghost use Rattle.independence.specs.Independence.{Commuting, Independent};
 ghost use Rattle.elimination.specs.Columns.{Within};
 ghost use Rattle.code.specs.Table.{Unused, wordsOf};
-use super::columns::Columns;
+use elimination::columns::Columns;
 
 mod build;
 mod check;

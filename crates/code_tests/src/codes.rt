@@ -73,14 +73,22 @@ fn rows_clash_where_letters_differ() -> Result<(), Fail> {
     check_eq(code.against(2, 3), 0)
 }
 
+// Errors of the five-place code, each with its syndrome as a number.
+const SYNDROMES: [(&[u8], u64); 5] = [
+    (b"IIIYI", 0b1100),
+    (b"IIIXI", 0b1000),
+    (b"IIIIY", 0b1000),
+    (b"ZIIII", 0b0010),
+    (b"ZXIII", 0),
+];
+
 #[test]
 fn syndromes_of_the_five_place_code() -> Result<(), Fail> {
     let code = five()?;
-    check_eq(syndrome_number(&code, b"IIIYI")?, 0b1100)?;
-    check_eq(syndrome_number(&code, b"IIIXI")?, 0b1000)?;
-    check_eq(syndrome_number(&code, b"IIIIY")?, 0b1000)?;
-    check_eq(syndrome_number(&code, b"ZIIII")?, 0b0010)?;
-    check_eq(syndrome_number(&code, b"ZXIII")?, 0)
+    for (error, number) in SYNDROMES {
+        check_eq(syndrome_number(&code, error)?, number)?;
+    }
+    Ok(())
 }
 
 #[test]
@@ -147,49 +155,45 @@ fn no_code_has_no_places_or_too_many() -> Result<(), Fail> {
     check_eq(code.rows(), 0)
 }
 
-#[test]
-fn a_row_is_as_long_as_the_code_has_places() -> Result<(), Fail> {
-    let mut code = five()?;
-    check_eq(refused(&mut code, b"")?, (3, 0))?;
-    check_eq(refused(&mut code, b"IIII")?, (3, 4))?;
-    check_eq(refused(&mut code, b"IIIIII")?, (3, 6))?;
-    check_eq(refused(&mut code, &[b'?'; 200])?, (3, 200)).note(
-        "the length comes before the letters",
-    )
-}
+// Rows that the five-place code refuses, each with the refusal's number and place.
+const REFUSED: [(&[u8], u8, usize); 18] = [
+    // the length is not that of the code, whatever the bytes are
+    (b"", 3, 0),
+    (b"IIII", 3, 4),
+    (b"IIIIII", 3, 6),
+    (b"????????", 3, 8),
+    // a byte names no letter: the first of two, small letters, bytes above 127, and before any row is looked at
+    (b"IIxIi", 4, 3),
+    (b"IIII0", 4, 5),
+    (b"I\xc3\x89II", 4, 2),
+    (b"\xff\xff\xff\xff\xff", 4, 1),
+    (b"ZZZZ?", 4, 5),
+    // it clashes with a row: of rows 2 and 4 the lowest
+    (b"IIIIZ", 5, 4),
+    (b"XIIII", 5, 1),
+    (b"IIZII", 5, 2),
+    (b"IIYII", 5, 2),
+    // it is a sum: of none, of one, of two neighbours, of the first and the last
+    (b"IIIII", 6, 5),
+    (b"ZXIII", 6, 5),
+    (b"IIXZX", 6, 5),
+    (b"YYXII", 6, 5),
+    (b"ZXXZX", 6, 5),
+];
 
 #[test]
-fn a_row_has_letters_only() -> Result<(), Fail> {
+fn the_five_place_code_refuses_what_it_should() -> Result<(), Fail> {
     let mut code = five()?;
-    check_eq(refused(&mut code, b"IIxIi")?, (4, 3))?;
-    check_eq(refused(&mut code, b"IIII0")?, (4, 5))?;
-    check_eq(refused(&mut code, &[b'I', 0xc3, 0x89, b'I', b'I'])?, (4, 2))?;
-    check_eq(refused(&mut code, &[0xff; 5])?, (4, 1))?;
-    check_eq(refused(&mut code, b"ZZZZ?")?, (4, 5)).note("letters come before the rows")
-}
-
-#[test]
-fn a_row_commutes_with_every_row() -> Result<(), Fail> {
-    let mut code = five()?;
-    check_eq(refused(&mut code, b"IIIIZ")?, (5, 4))?;
-    check_eq(refused(&mut code, b"XIIII")?, (5, 1))?;
-    check_eq(refused(&mut code, b"IIZII")?, (5, 2)).note(
-        "rows 2 and 4 clash, and 2 is the lowest",
-    )?;
-    check_eq(refused(&mut code, b"IIYII")?, (5, 2))?;
+    for (row, number, place) in REFUSED {
+        check_eq(refused(&mut code, row)?, (number, place))?;
+    }
     code.add_row(b"IIIIX")?;
     check_eq(code.rows(), 5)
 }
 
 #[test]
-fn a_row_is_no_sum_of_rows() -> Result<(), Fail> {
-    let mut code = five()?;
-    check_eq(refused(&mut code, b"IIIII")?, (6, 5))?;
-    check_eq(refused(&mut code, b"ZXIII")?, (6, 5))?;
-    check_eq(refused(&mut code, b"YYXII")?, (6, 5)).note("the first two rows")?;
-    check_eq(refused(&mut code, b"ZXXZX")?, (6, 5)).note("the first and the last row")?;
-    code.begin(3)?;
-    check_eq(refused(&mut code, b"III")?, (6, 1)).note("the sum of no rows")
+fn the_first_row_is_not_blank() -> Result<(), Fail> {
+    check_eq(refused(&mut Code::bare(), b"I")?, (6, 1))
 }
 
 // Whether a refusal says that the row clashes or is a sum.

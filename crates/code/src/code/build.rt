@@ -7,8 +7,8 @@ ghost use Rattle.code.specs.Codes.{placesOf, rowsOf};
 ghost use Rattle.code.specs.Calls.{Begun, Added};
 ghost use Rattle.code.specs.Checks.{wordIn, Fits};
 use super::Code;
-use crate::columns::Columns;
-use crate::refusal::Refusal;
+use answers::Refusal;
+use elimination::columns::Columns;
 use pauli::Letters;
 use pauli::MAX_PLACES;
 

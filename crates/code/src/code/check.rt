@@ -9,13 +9,14 @@ ghost use Rattle.pauli.specs.Words.{syndrome};
 ghost use Rattle.pauli.specs.Text.{first};
 ghost use Rattle.independence.specs.Pivots.{isSum};
 ghost use Rattle.elimination.specs.Masks.{setOf};
-ghost use Rattle.code.specs.Codes.{placesOf, rowsOf, bitsOf};
+ghost use Rattle.answers.specs.Syndromes.{bitsOf};
+ghost use Rattle.code.specs.Codes.{placesOf, rowsOf};
 ghost use Rattle.code.specs.Lemmas.{RowLaws};
 ghost use Rattle.code.specs.Calls.{Told};
 ghost use Rattle.code.specs.Checks.{wordIn, SpeltOr, PassedOr, Meant};
 use super::Code;
-use crate::refusal::Refusal;
-use crate::syndrome::Syndrome;
+use answers::Refusal;
+use answers::Syndrome;
 use elimination::mask::lowest;
 use elimination::sums::sum_of;
 use pauli::Letters;
@@ -77,8 +78,8 @@ impl Code {
         self.summands(word).is_some()
     }
 
-    // The checks in their order, by what each tells of the refusal.
-    fn check_by(&self, row: &[u8]) -> Result<Letters, Refusal>
+    // The letters of a row's text that can be added: the checks in their order, by what each tells of the refusal.
+    pub(super) fn check_row(&self, row: &[u8]) -> Result<Letters, Refusal>
         requires { ⌜ RowLaws ⌝ }
         ensures cases { λ r. ⌜ PassedOr (now (self .entry)) (now (row .entry)) r ⌝ }
         ensures means { λ _. ⌜ Meant (now (self .entry)) (now (row .entry)) ⌝ }
@@ -94,14 +95,6 @@ impl Code {
             return Err(Refusal::Sum { row: self.rows + 1 });
         }
         Ok(word)
-    }
-
-    // The letters of a row's text that can be added.
-    pub(super) fn check_row(&self, row: &[u8]) -> Result<Letters, Refusal>
-        ensures cases { λ r. ⌜ PassedOr (now (self .entry)) (now (row .entry)) r ⌝ }
-        ensures means { λ _. ⌜ Meant (now (self .entry)) (now (row .entry)) ⌝ }
-    {
-        self.check_by(row)
     }
 
     // The syndrome of a word.

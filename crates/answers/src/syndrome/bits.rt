@@ -3,14 +3,14 @@ ghost use mathlib.Core.Path.{_≡_};
 ghost use mathlib.Core.Bool.{false};
 ghost use lib.ListN.{length, getD};
 ghost use Rattle.elimination.specs.Masks.{bits};
-ghost use Rattle.code.specs.Codes.{bitsOf};
-ghost use Rattle.code.specs.Lemmas.{ReadLaws};
+ghost use Rattle.answers.specs.Syndromes.{bitsOf};
+ghost use Rattle.answers.specs.Lemmas.{ReadLaws};
 use super::Syndrome;
 use elimination::mask::has;
 
 impl Syndrome {
     // The syndrome whose bits are the lowest of a mask, as many as there are rows.
-    pub(crate) fn of(rows: usize, odd: u64) -> Syndrome
+    pub fn of(rows: usize, odd: u64) -> Syndrome
         ensures { λ r. ⌜ bitsOf r ≡ bits rows odd ⌝ }
     {
         Syndrome { rows, odd }

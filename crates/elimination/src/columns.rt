@@ -1,4 +1,4 @@
-// The plain inner table of a code: for each place the rows that clash there with X and with Z.
+// The table of a code: for each place the rows that clash there with X and with Z.
 ghost use mathlib.Core.Path.{_≡_};
 ghost use Prim.Native.Nat.{_<_, _≤_};
 ghost use lib.ListN.{length, getD, set, take, replicate};
@@ -6,9 +6,9 @@ ghost use Rattle.std.specs.Orderings.{Decides};
 ghost use Rattle.pauli.specs.Letters.{letter};
 ghost use Rattle.pauli.specs.Limits.{maxPlaces, maxRows};
 ghost use Rattle.pauli.specs.Text.{lettersOf};
 ghost use Rattle.elimination.specs.Columns.{marked, clashes, withRow, hollow};
-use elimination::column::Column;
-use elimination::column::ColumnPartialEq;
+use crate::column::Column;
+use crate::column::ColumnPartialEq;
 use pauli::Letters;
 use pauli::MAX_PLACES;
 

@@ -6,7 +6,7 @@ use std::fmt;
 mod bits;
 
 // A bit for each row: whether the error does not commute with it.
-#[derive(Clone, Copy, PartialEq, Eq, Debug)]
+#[derive(Clone, Copy)]
 pub struct Syndrome {
     rows: usize,
     odd: u64,

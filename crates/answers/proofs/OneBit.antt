@@ -6,7 +6,7 @@ use native.Mathlib.Omega.{arith}
 use lib.ListN.{getD}
 use Rattle.elimination.specs.Masks.{bit, bits}
 use Rattle.elimination.proofs.Masks.{bit-zero, bit-suc}
-use Rattle.code.specs.Lemmas.{ReadLaws}
+use Rattle.answers.specs.Lemmas.{ReadLaws}
 
 within : (j r m : ℕ) → j < r → bit j m ≡ getD (bits r m) j false
 unfolding bits

@@ -1,5 +1,0 @@
-use Rattle.code.proofs.Steps.{clash-laws}
-use Rattle.code.proofs.columns.Columns.clashes.Needs as need
-
-pub loop-i-holds : need.loop-i-holds
-loop-i-holds c = (clash-laws .none, clash-laws)

@@ -1,5 +1,0 @@
-use Rattle.code.proofs.OneBit.{read-laws}
-use Rattle.code.proofs.syndrome.Syndrome.bit.Needs as need
-
-pub read-requires : need.read-requires
-read-requires c κs = read-laws
