@@ -4,8 +4,8 @@ use mathlib.Core.Path.{_≡_, refl, sym, _∙_}
 use mathlib.Core.Bool.{false}
 use native.Mathlib.Omega.{arith}
 use lib.ListN.{getD}
-use Rattle.elimination.specs.Masks.{bit, bits}
-use Rattle.elimination.proofs.Masks.{bit-zero, bit-suc}
+use Rattle.columns.specs.Masks.{bit, bits}
+use Rattle.columns.proofs.Masks.{bit-zero, bit-suc}
 use Rattle.answers.specs.Lemmas.{ReadLaws}
 
 within : (j r m : ℕ) → j < r → bit j m ≡ getD (bits r m) j false

@@ -3,7 +3,7 @@ use Prim.Native.Nat.{ℕ, _<_, _≤_}
 use mathlib.Core.Path.{_≡_}
 use mathlib.Core.Bool.{false}
 use lib.ListN.{getD}
-use Rattle.elimination.specs.Masks.{bit, bits}
+use Rattle.columns.specs.Masks.{bit, bits}
 
 -- the list of the first r bits of a mask has bit j at index j, and false past its end
 pub record ReadLaws : Type 0 where

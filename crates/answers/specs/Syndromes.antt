@@ -1,7 +1,7 @@
 -- The bits of a syndrome. Assumes nothing.
 use mathlib.Core.Bool.{Bool}
 use mathlib.Core.List.{List}
-use Rattle.elimination.specs.Masks.{bits}
+use Rattle.columns.specs.Masks.{bits}
 use Rattle.answers.specs.declared.syndrome.Syndrome.{Syndrome}
 
 -- a bit for each row, row 1 first

@@ -1,6 +1,6 @@
 // The syndrome of an error.
 ghost use mathlib.Core.Path.{_≡_};
-use elimination::mask::has;
+use columns::mask::has;
 use std::fmt;
 
 mod bits;

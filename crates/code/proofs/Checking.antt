@@ -18,13 +18,14 @@ use Rattle.independence.specs.Independence.{Commuting, Independent}
 use Rattle.independence.specs.Pivots.{isSum, addends, Decided}
 use Rattle.independence.proofs.Pivots.{sums-decided}
 use Rattle.independence.proofs.Independence.{explained}
-use Rattle.elimination.specs.declared.column.Column.{Column}
-use Rattle.elimination.specs.Masks.{bits, setOf}
-use Rattle.elimination.specs.Columns.{rows, clashes, withRow, Within, Solved}
+use Rattle.columns.specs.declared.column.Column.{Column}
+use Rattle.columns.specs.Masks.{bits, setOf}
+use Rattle.columns.specs.Columns.{rows, clashes, withRow, Within}
+use Rattle.elimination.specs.Sums.{Solved}
 use Rattle.elimination.proofs.Adding.{rows-within}
-use Rattle.elimination.proofs.Clashing.{clashes-syndrome, clashes-below}
-use Rattle.elimination.proofs.Digits.{bits-set, set-bits}
-use Rattle.elimination.proofs.Marking.{length-rows, long-rows, within-take}
+use Rattle.columns.proofs.Clashing.{clashes-syndrome, clashes-below}
+use Rattle.columns.proofs.Digits.{bits-set, set-bits}
+use Rattle.columns.proofs.Marking.{length-rows, long-rows, within-take}
 use Rattle.code.specs.Table.{Unused, wordsOf}
 use Rattle.code.specs.declared.code.Code.{Code}
 use Rattle.code.specs.Codes.{placesOf, rowsOf, front, Admitted}

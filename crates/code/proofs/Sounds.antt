@@ -12,9 +12,9 @@ use Rattle.pauli.specs.Words.{Word, star, select, syndrome}
 use Rattle.pauli.proofs.WordLaws.{star-none, star-sym, star-self}
 use Rattle.independence.specs.Independence.{Commuting, Independent}
 use Rattle.independence.proofs.Independence.{independent-push, independent-none}
-use Rattle.elimination.specs.declared.column.Column.{Column}
-use Rattle.elimination.specs.Columns.{rows, withRow, hollow, Within}
-use Rattle.elimination.proofs.Marking.{rows-none, rows-put, take-withRow, within-take, within-more, length-withRow, beyond}
+use Rattle.columns.specs.declared.column.Column.{Column}
+use Rattle.columns.specs.Columns.{rows, withRow, hollow, Within}
+use Rattle.columns.proofs.Marking.{rows-none, rows-put, take-withRow, within-take, within-more, length-withRow, beyond}
 use Rattle.code.specs.Table.{Unused, wordsOf}
 
 hollows : (n k : ℕ) → getD (replicate n hollow) k hollow ≡ hollow

@@ -3,11 +3,11 @@ use Prim.Native.Nat.{ℕ, _<_, _≤_, _+_}
 use mathlib.Core.Path.{_≡_}
 use mathlib.Core.Bool.{Bool, false, true}
 use lib.ListN.{getD, length}
-use Rattle.elimination.specs.Masks.{setOf}
+use Rattle.columns.specs.Masks.{setOf}
 use mathlib.Core.List.{[], List}
 use Rattle.pauli.specs.Letters.{Letter, number}
 use Rattle.pauli.specs.Words.{at, syndrome}
-use Rattle.elimination.specs.Columns.{letterIn, against, hollow}
+use Rattle.columns.specs.Columns.{letterIn, against, hollow}
 use Rattle.code.specs.declared.code.Code.{Code}
 use Rattle.code.specs.Codes.{rowsOf, clashing, placesOf, front}
 use lib.Dec.{leb}

@@ -4,8 +4,8 @@ use mathlib.Core.Path.{_≡_}
 use mathlib.Core.List.{List}
 use lib.ListN.{take, getD}
 use Rattle.pauli.specs.Words.{Word}
-use Rattle.elimination.specs.declared.column.Column.{Column}
-use Rattle.elimination.specs.Columns.{rows, hollow}
+use Rattle.columns.specs.declared.column.Column.{Column}
+use Rattle.columns.specs.Columns.{rows, hollow}
 
 -- the columns after the first n places are empty
 abbrev pub Unused : ℕ → List Column → Type 0

@@ -4,9 +4,9 @@ ghost use Prim.Native.Nat.{_<_, _≤_};
 ghost use lib.ListN.{length};
 ghost use Rattle.pauli.specs.Limits.{maxPlaces, maxRows};
 ghost use Rattle.independence.specs.Independence.{Commuting, Independent};
-ghost use Rattle.elimination.specs.Columns.{Within};
+ghost use Rattle.columns.specs.Columns.{Within};
 ghost use Rattle.code.specs.Table.{Unused, wordsOf};
-use elimination::columns::Columns;
+use columns::Columns;
 
 mod build;
 mod check;

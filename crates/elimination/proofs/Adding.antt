@@ -5,61 +5,22 @@ use mathlib.Core.List.{List, [], _∷_, map}
 use mathlib.Core.Logic.{_↔_}
 use Prim.Native.Nat.{ℕ, zero, suc, _+_, _/_, _^_, _<_, _≤_}
 use native.Mathlib.Nat.{div-one}
-use native.Mathlib.Numerals.{add-one}
 use native.Mathlib.Omega.{arith}
 use lib.ListN.{length, getD, replicate, length-replicate}
 use borrow.Author.Count.{below-more}
-use Rattle.std.proofs.shelf.Bits.{shr-shr}
 use Rattle.std.specs.declared.option.Option.the-variants.{Some, None}
 use Rattle.pauli.specs.Limits.{maxRows}
 use Rattle.pauli.specs.Letters.{Letter, I, X, Y, Z, letter, clash, plus}
 use Rattle.pauli.specs.Words.{odd, Word, xor, add, select}
 use Rattle.pauli.specs.Laws.{chosen}
-use Rattle.elimination.specs.Masks.{bit, bits}
+use Rattle.columns.specs.Masks.{bit, bits}
 use Rattle.elimination.specs.Systems.{Meets, Holds, idle, LowestAt, Triangular, Took}
-use Rattle.elimination.specs.Columns.{told, row, rowsFrom, rows, hollow, Within, Solved}
-use Rattle.elimination.specs.declared.column.Column.{Column}
-use Rattle.elimination.proofs.Masks.{bit-none, chosen-none, chosen-within}
+use Rattle.columns.specs.Columns.{told, row, rowsFrom, rows, hollow, Within}
+use Rattle.columns.specs.declared.column.Column.{Column}
+use Rattle.elimination.specs.Sums.{Solved}
+use Rattle.columns.proofs.Telling.{told-plus, told-clash, clash-told-X, clash-told-Z, shift}
+use Rattle.columns.proofs.Masks.{bit-none, chosen-none, chosen-within}
 use Rattle.elimination.specs.declared.sums.Equation.{Equation}
-
-told-plus : (a b c d : Bool) → plus (told a b) (told c d) ≡ told (xor a c) (xor b d)
-told-plus true true true true = refl
-told-plus true true true false = refl
-told-plus true true false true = refl
-told-plus true true false false = refl
-told-plus true false true true = refl
-told-plus true false true false = refl
-told-plus true false false true = refl
-told-plus true false false false = refl
-told-plus false true true true = refl
-told-plus false true true false = refl
-told-plus false true false true = refl
-told-plus false true false false = refl
-told-plus false false true true = refl
-told-plus false false true false = refl
-told-plus false false false true = refl
-told-plus false false false false = refl
-
-pub told-clash : (a : Letter) → told (clash a X) (clash a Z) ≡ a
-told-clash I = refl
-told-clash X = refl
-told-clash Y = refl
-told-clash Z = refl
-
-clash-told-X : (a b : Bool) → clash (told a b) X ≡ a
-clash-told-X true true = refl
-clash-told-X true false = refl
-clash-told-X false true = refl
-clash-told-X false false = refl
-
-clash-told-Z : (a b : Bool) → clash (told a b) Z ≡ b
-clash-told-Z true true = refl
-clash-told-Z true false = refl
-clash-told-Z false true = refl
-clash-told-Z false false = refl
-
-pub shift : (m j : ℕ) → m / 2 ^ j / 2 ≡ m / 2 ^ suc j
-shift m j = shr-shr m j 1 ∙ ap (λ (n : ℕ). m / 2 ^ n) (add-one j)
 
 -- the letter at the first place of a sum
 abbrev first : List Bool → ℕ → ℕ → Column → Letter

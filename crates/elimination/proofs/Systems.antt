@@ -18,10 +18,10 @@ use Rattle.pauli.specs.Limits.{maxRows}
 use Rattle.pauli.specs.Words.{odd, xor}
 use Rattle.pauli.specs.Laws.{chosen}
 use Rattle.pauli.proofs.WordLaws.{xor-false}
-use Rattle.elimination.specs.Masks.{bit, bits}
+use Rattle.columns.specs.Masks.{bit, bits}
 use Rattle.elimination.specs.Systems.{Meets, Holds, idle, LowestAt, Triangular, Took}
 use Rattle.elimination.specs.declared.sums.Equation.{Equation}
-use Rattle.elimination.proofs.Masks.{bit-xor, bit-none, chosen-xor, chosen-sym, chosen-off, chosen-none, chosen-one, parity}
+use Rattle.columns.proofs.Masks.{bit-xor, bit-none, chosen-xor, chosen-sym, chosen-off, chosen-none, chosen-one, parity}
 
 differ-xor : (a b : Bool) → not (Bool·beq a b) ≡ xor a b
 differ-xor true true = refl
@@ -131,9 +131,6 @@ pub record Putting (before : List Equation) (m : ℕ) (b : Bool) : Type 0 where
   pub put : (es : List Equation) (j n : ℕ) (a : Bool) → Left before es m b j n a → j < maxRows → (bitAnd (n / 2 ^ j) 1 ≡ 0 → ⊥) → getD es j idle .mask ≡ 0
       → Triangular (set es j (record { mask = n; odd = a })) × Took before m b (set es j (record { mask = n; odd = a })) true
   pub none : (es : List Equation) (j n : ℕ) (a : Bool) → Left before es m b j n a → maxRows ≤ j → Triangular es × Took before m b es (not a)
-
-pub read-bit : (j n : ℕ) → eqb (bitAnd (n / 2 ^ j) 1) 1 ≡ bit j n
-read-bit j n = ap (λ k. eqb k 1) (and-mask (n / 2 ^ j) 1)
 
 bit-set : (j n : ℕ) → (bitAnd (n / 2 ^ j) 1 ≡ 0 → ⊥) → bit j n ≡ true
 bit-set j n h = ap (λ r. eqb r 1) (let o : n / 2 ^ j % 2 ≡ 1 = omega (arith, nope) in o)

@@ -7,7 +7,7 @@ use Prim.Native.Nat.{ℕ, _<_}
 use lib.ListN.{length, getD}
 use Rattle.pauli.specs.Limits.{maxRows}
 use Rattle.pauli.specs.Laws.{chosen}
-use Rattle.elimination.specs.Masks.{bit, bits}
+use Rattle.columns.specs.Masks.{bit, bits}
 use Rattle.elimination.specs.declared.sums.Equation.{Equation}
 
 -- the bits meet an equation

@@ -2,12 +2,12 @@
 ghost use mathlib.Core.Path.{_≡_};
 ghost use lib.ListN.{length};
 ghost use Rattle.pauli.specs.Limits.{maxRows};
-ghost use Rattle.elimination.specs.Masks.{bits};
-ghost use Rattle.elimination.specs.Columns.{Solved};
+ghost use Rattle.columns.specs.Masks.{bits};
+ghost use Rattle.elimination.specs.Sums.{Solved};
 ghost use Rattle.elimination.specs.Systems.{Holds, Triangular, Took};
-use crate::column::Column;
-use crate::column::clashes_with_x;
-use crate::column::clashes_with_z;
+use columns::Column;
+use columns::clashes_with_x;
+use columns::clashes_with_z;
 use pauli::MAX_ROWS;
 
 // The unknowns that the mask chooses have an odd sum, or an even one. A system has an equation for each unknown, at the unknown's

@@ -2,11 +2,11 @@
 ghost use mathlib.Core.Path.{_≡_};
 ghost use mathlib.Core.Bool.{false};
 ghost use lib.ListN.{length, getD};
-ghost use Rattle.elimination.specs.Masks.{bits};
+ghost use Rattle.columns.specs.Masks.{bits};
 ghost use Rattle.answers.specs.Syndromes.{bitsOf};
 ghost use Rattle.answers.specs.Lemmas.{ReadLaws};
 use super::Syndrome;
-use elimination::mask::has;
+use columns::mask::has;
 
 impl Syndrome {
     // The syndrome whose bits are the lowest of a mask, as many as there are rows.

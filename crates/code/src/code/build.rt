@@ -8,7 +8,7 @@ ghost use Rattle.code.specs.Calls.{Begun, Added};
 ghost use Rattle.code.specs.Checks.{wordIn, Fits};
 use super::Code;
 use answers::Refusal;
-use elimination::columns::Columns;
+use columns::Columns;
 use pauli::Letters;
 use pauli::MAX_PLACES;
 

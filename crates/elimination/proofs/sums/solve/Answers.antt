@@ -3,8 +3,8 @@ use lib.ListN.{length, length-map}
 use Rattle.pauli.specs.Limits.{maxRows}
 use Rattle.pauli.specs.Letters.{letter}
 use Rattle.pauli.proofs.WordLaws.{length-select}
-use Rattle.elimination.specs.Columns.{rows}
-use Rattle.elimination.proofs.Marking.{long-rows}
+use Rattle.columns.specs.Columns.{rows}
+use Rattle.columns.proofs.Marking.{long-rows}
 use Rattle.elimination.proofs.sums.solve.Needs as need
 
 pub returns-then-columns-word : need.returns-then-columns-word

@@ -1,0 +1,6 @@
+pub mod Masks
+pub mod Telling
+pub mod Marking
+pub mod Clashing
+pub mod Digits
+mod Steps

@@ -1,5 +1,0 @@
-use Rattle.elimination.proofs.Steps.{put-laws}
-use Rattle.elimination.proofs.columns.Columns.put_row.Needs as need
-
-pub loop-i-holds : need.loop-i-holds
-loop-i-holds c = (put-laws .none _ _, put-laws)

@@ -1,5 +1,0 @@
-use Rattle.elimination.proofs.Digits.{bit-laws}
-use Rattle.elimination.proofs.mask.has.Needs as need
-
-pub has-by-requires : need.has-by-requires
-has-by-requires c κs = bit-laws
