@@ -71,10 +71,6 @@ and-split : (k a b : Bool) → (k && xor a b) ≡ xor (k && a) (k && b)
 and-split true a b = refl
 and-split false a b = refl
 
-and-off : (k : Bool) → (k && false) ≡ false
-and-off true = refl
-and-off false = refl
-
 -- the parity of the bits chosen of a mask, linear in the mask
 pub chosen-xor : (k : ℕ) (ks : List Bool) (a b : ℕ) → chosen ks (bits k (bitXor a b)) ≡ xor (chosen ks (bits k a)) (chosen ks (bits k b))
 unfolding bits
@@ -99,7 +95,7 @@ chosen-off zero [] m h = refl
 chosen-off zero (c ∷ ks) m h = refl
 chosen-off (suc k) [] m h = refl
 chosen-off (suc k) (c ∷ ks) m h =
-    ap₂ xor (ap (λ x. c && x) (sym (bit-zero m) ∙ h 0 (omega arith)) ∙ and-off c)
+    ap₂ xor (ap (λ x. c && x) (sym (bit-zero m) ∙ h 0 (omega arith)) ∙ B.and-false c)
     (chosen-off k ks (m / 2) (λ i l. sym (bit-suc i m) ∙ h (suc i) (omega arith)))
 
 pub chosen-none : (k : ℕ) (ks : List Bool) → chosen ks (bits k 0) ≡ false

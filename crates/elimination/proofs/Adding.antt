@@ -13,6 +13,7 @@ use Rattle.pauli.specs.Limits.{maxRows}
 use Rattle.pauli.specs.Letters.{Letter, I, X, Y, Z, letter, clash, plus}
 use Rattle.pauli.specs.Words.{odd, Word, xor, add, select}
 use Rattle.pauli.specs.Laws.{chosen}
+use Rattle.pauli.proofs.WordLaws.{heads, tails}
 use Rattle.columns.specs.Masks.{bit, bits}
 use Rattle.elimination.specs.Systems.{Meets, Holds, idle, LowestAt, Triangular, Took}
 use Rattle.columns.specs.Columns.{told, row, rowsFrom, rows, hollow, Within}
@@ -59,12 +60,6 @@ Gives ks columns word p = (q : ℕ) → q < p → Here ks (getD columns q hollow
 
 whole : (ks : List Bool) (m : ℕ) → chosen ks (bits maxRows (m / 2 ^ 0)) ≡ chosen ks (bits maxRows m)
 whole ks m = ap (λ n. chosen ks (bits maxRows n)) (div-one m)
-
-heads : (a b : Letter) (v w : Word) → a ∷ v ≡ b ∷ w → a ≡ b
-heads a b v w e = cc
-
-tails : (a b : Letter) (v w : Word) → a ∷ v ≡ b ∷ w → v ≡ w
-tails a b v w e = cc
 
 -- a sum that is the word is so at every place
 sum-gives : (ks : List Bool) (columns : List Column) (word : List ℕ) → length columns ≡ length word

@@ -2,7 +2,7 @@
 use mathlib.Core.Path.{_≡_, refl, sym, ap, ap₂, subst, _∙_}
 use mathlib.Core.Logic.{_↔_, _⊎_, inl, inr}
 use mathlib.Core.HLevel.{Π-prop, ⊥-prop}
-use mathlib.Core.Bool.{Bool, true, false, not, _&&_, false≢true}
+use mathlib.Core.Bool.{Bool, true, false, not, _&&_, and-false, false≢true}
 use mathlib.Core.List.{List, [], _∷_, _++_, append-nil, append-assoc}
 use Prim.Native.Nat.{ℕ, zero, suc, _<_, _≤_}
 use native.Mathlib.Omega.{arith}
@@ -14,7 +14,7 @@ use Rattle.pauli.specs.Words.{Word, xor, add, star, blank, select, syndrome, Lo
 use Rattle.pauli.specs.Laws.{addIf}
 use Rattle.independence.specs.Independence.{Independent, Explained}
 use Rattle.independence.specs.Pivots.{Pivot, residue, coefficients, pivot, pivots}
-use Rattle.pauli.proofs.WordLaws.{xor-false, xor-self, xor-assoc, length-blank, length-addIf, star-addIf-right}
+use Rattle.pauli.proofs.WordLaws.{heads, tails, xor-false, xor-self, xor-assoc, length-blank, length-addIf, star-addIf-right}
 use Rattle.independence.proofs.Pivots.{pivotRows, Commutes, Sound, pivot-sound, pivots-sound, clashes-partner, blank-sums, other-sums-not}
 
 -- whether no row is a sum of the rows before it
@@ -129,12 +129,8 @@ length-explain n (p ∷ ps) (k ∷ b) s =
 syndrome-addIf : (n : ℕ) (k : Bool) (rows : List Word) (u v : Word) → length u ≡ n → length v ≡ n → Commutes rows u → syndrome rows (addIf k u v) ≡ syndrome rows v
 syndrome-addIf n k [] u v hu hv c = refl
 syndrome-addIf n k (r ∷ rows) u v hu hv c =
-    ap₂ _∷_ (star-addIf-right n k r u v hu hv ∙ ap (λ b. xor b (star r v)) (ap (λ b. k && b) (c .0) ∙ off k))
+    ap₂ _∷_ (star-addIf-right n k r u v hu hv ∙ ap (λ b. xor b (star r v)) (ap (λ b. k && b) (c .0) ∙ and-false k))
     (syndrome-addIf n k rows u v hu hv (c .1))
-  where
-    off : (a : Bool) → (a && false) ≡ false
-    off true = refl
-    off false = refl
 
 mends : (k x b : Bool) → b ≡ true → xor (xor k x && b) x ≡ k
 mends true true b e = refl
@@ -155,12 +151,6 @@ explain-right n (p ∷ ps) (k ∷ b) s c h =
     (star-addIf-right n (xor k x) (p .row) (p .partner) u (s .1) (length-explain n ps b (s .4)) ∙ mends k x (star (p .row) (p .partner)) (c .0))
     (syndrome-addIf n (xor k x) (pivotRows ps) (p .partner) u (s .1) (length-explain n ps b (s .4)) (s .2)
     ∙ explain-right n ps b (s .4) (c .1) (omega arith))
-
-heads : (a b : Bool) (xs ys : List Bool) → a ∷ xs ≡ b ∷ ys → a ≡ b
-heads a b xs ys e = cc
-
-tails : (a b : Bool) (xs ys : List Bool) → a ∷ xs ≡ b ∷ ys → xs ≡ ys
-tails a b xs ys e = cc
 
 explained-after : (n : ℕ) (ps : List Pivot) (rows : List Word) (b s : List Bool) → Sound n ps → Clashing ps → Long n rows → independentAfter ps rows ≡ true
     → length b ≡ length ps → length s ≡ length rows → (e : Word) × (length e ≡ n) × (syndrome (pivotRows ps) e ≡ b) × (syndrome rows e ≡ s)

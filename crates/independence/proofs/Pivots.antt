@@ -1,7 +1,7 @@
 -- Elimination with a partner for each row: it keeps its promise for every list of rows. Assumes nothing.
 use mathlib.Core.Path.{_≡_, refl, sym, ap, ap₂, subst, _∙_}
 use mathlib.Core.Logic.{_⊎_, inl, inr}
-use mathlib.Core.Bool.{Bool, true, false, cond, _&&_, and-comm, false≢true}
+use mathlib.Core.Bool.{Bool, true, false, cond, _&&_, and-comm, and-false, false≢true}
 use mathlib.Core.List.{List, [], _∷_, _++_, append-nil}
 use Rattle.std.specs.declared.option.Option.{Option}
 use Rattle.std.specs.declared.option.Option.the-variants.{Some, None}
@@ -49,10 +49,6 @@ adjoint n (p ∷ ps) w v s hw hv =
     ∙ (star-addIf n (star w (p .partner)) (p .row) w (cleared ps v) (s .0) hw
     ∙ (ap (λ b. xor b (star w (cleared ps v))) (and-comm (star w (p .partner)) (star (p .row) (cleared ps v)))
     ∙ sym (star-addIf-right n (star (p .row) (cleared ps v)) w (p .partner) (cleared ps v) (s .1) (length-cleared n ps v (s .4) hv))))
-
-and-false : (a : Bool) → (a && false) ≡ false
-and-false true = refl
-and-false false = refl
 
 pub commutes-addIf : (n : ℕ) (k : Bool) (rows : List Word) (u v : Word) → length u ≡ n → length v ≡ n → Commutes rows u → Commutes rows v → Commutes rows (addIf k u v)
 commutes-addIf n k [] u v hu hv cu cv = tt

@@ -11,6 +11,14 @@ use Rattle.pauli.specs.Words.{Word, odd, xor, add, clashCount, star, blank, is
 use Rattle.pauli.specs.Laws.{addIf, spot, chosen, weight, WordLaws}
 use Rattle.pauli.proofs.LetterLaws.{plus-comm, plus-assoc, plus-self, plus-I, clash-sym, clash-I, clash-plus}
 
+-- Lists
+
+pub heads : {A : Type 0} (a b : A) (v w : List A) → a ∷ v ≡ b ∷ w → a ≡ b
+heads a b v w e = cc
+
+pub tails : {A : Type 0} (a b : A) (v w : List A) → a ∷ v ≡ b ∷ w → v ≡ w
+tails a b v w e = cc
+
 -- Bits
 
 pub xor-false : (a : Bool) → xor a false ≡ a
