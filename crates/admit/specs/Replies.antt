@@ -1,15 +1,16 @@
 -- What each line of the input comes to. Assumes nothing.
-use Prim.Native.Nat.{ℕ, _<_}
+use Prim.Native.Nat.{ℕ}
 use mathlib.Core.Path.{_≡_}
 use mathlib.Core.List.{List, [], _∷_}
 use lib.ListN.{length}
+use mir.Syntax.{w64}
+use mir.Val.{Fits}
 use Rattle.std.specs.declared.option.Option.{Option}
 use Rattle.std.specs.declared.option.Option.the-variants.{Some, None}
 use Rattle.std.specs.declared.result.Result.{Result}
 use Rattle.std.specs.declared.result.Result.the-variants.{Ok, Err}
 use Rattle.std.specs.Reads.{Numeral, value, afterPlus}
 use Rattle.std.specs.Text.{Utf8}
-use Rattle.pauli.specs.Limits.{maxPlaces}
 use Rattle.answers.specs.declared.refusal.Refusal.{Refusal}
 use Rattle.answers.specs.declared.syndrome.Syndrome.{Syndrome}
 use Rattle.code.specs.Codes.{rowsOf}
@@ -20,11 +21,12 @@ use Rattle.admit.specs.declared.session.Stage.{Stage}
 use Rattle.admit.specs.declared.session.Stage.the-variants.{Places, Rows, Errors, Ended}
 use Rattle.admit.specs.declared.session.Session.{Session}
 
--- the reply to a number of places, and what is read next
+-- the reply to a number of places
 abbrev pub beginReply : ℕ → Result (Unit {0}) Refusal → Reply
 beginReply n (Ok u) = R.Begun n
 beginReply n (Err e) = R.Refused e
 
+-- what is read after a number of places: rows, or nothing any more
 abbrev pub afterBegin : Result (Unit {0}) Refusal → Stage
 afterBegin (Ok u) = Rows
 afterBegin (Err e) = Ended
@@ -55,10 +57,10 @@ RowLine line before reply after =
 abbrev pub ErrorLine : List ℕ → Session → Reply → Type 0
 ErrorLine line session reply = (r : Result Syndrome Refusal) × Told (session .code) line r × (reply ≡ errorReply r)
 
--- the number that a line of text writes in decimal digits, a plus in front or not; none where it writes none, or one beyond every code
+-- the number that a line of text writes in decimal digits, a plus in front or not; none where it writes none, or one that no usize holds
 abbrev pub Numbered : List ℕ → Option ℕ → Type 0
 Numbered line (Some n) = Numeral 10 (afterPlus line) × (n ≡ value 10 (afterPlus line))
-Numbered line None = Utf8 line → Numeral 10 (afterPlus line) → maxPlaces < value 10 (afterPlus line)
+Numbered line None = Utf8 line → Numeral 10 (afterPlus line) → Fits w64 (value 10 (afterPlus line)) → ⊥
 
 -- one line, by what it is read as: a number of places, a row or the empty line after the rows, an error, or nothing any more
 abbrev pub LineAt : Stage → List ℕ → Session → Option Reply → Session → Type 0

@@ -1,5 +1,4 @@
 // The syndrome of an error.
-ghost use mathlib.Core.Path.{_≡_};
 use columns::mask::has;
 use std::fmt;
 

@@ -3,8 +3,8 @@ ghost use mathlib.Core.Path.{_≡_};
 ghost use Prim.Native.Nat.{_<_};
 ghost use Rattle.pauli.specs.Limits.{maxRows};
 ghost use Rattle.pauli.specs.Letters.{letter, number, clash, X, Z};
-use crate::mask::has;
 ghost use Rattle.columns.specs.Columns.{against, letterIn, marked};
+use crate::mask::has;
 
 #[derive(Clone, Copy, PartialEq, Eq)]
 pub struct Column {

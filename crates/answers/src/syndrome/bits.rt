@@ -1,7 +1,7 @@
 // The bits of a syndrome.
 ghost use mathlib.Core.Path.{_≡_};
 ghost use mathlib.Core.Bool.{false};
-ghost use lib.ListN.{length, getD};
+ghost use lib.ListN.{getD};
 ghost use Rattle.columns.specs.Masks.{bits};
 ghost use Rattle.answers.specs.Syndromes.{bitsOf};
 ghost use Rattle.answers.specs.Lemmas.{ReadLaws};
