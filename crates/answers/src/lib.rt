@@ -1,4 +1,6 @@
 // What a code answers: refusals and syndromes.
+#![tactic(auto)]
+
 mod refusal;
 mod syndrome;
 

@@ -1,4 +1,6 @@
 // Channels: what each letter costs at each place, and what a word measures.
+#![tactic(auto)]
+
 mod flat;
 mod laws;
 mod prices;

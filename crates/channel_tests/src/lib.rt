@@ -1,4 +1,6 @@
 // Tests of measures, channels and layers on examples, and a measure of a user's own.
+#![tactic(auto)]
+
 mod fading;
 
 pub use fading::Fading;

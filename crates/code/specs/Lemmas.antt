@@ -1,11 +1,13 @@
 -- Lemmas that inner functions are handed by their callers; each is proved, and none is anything to believe. Assumes nothing.
 use Rattle.std.specs.Prelude.{◌≡◌, ℕ, ◌+◌, ◌<◌, ◌≤◌, true, false, List, [], length, Some, None, nat_le, slice_index_or}
+use Rattle.std.specs.Cmp.{IsPartialEquivalence, and_per, on_per, partial_equiv_from_equiv, nat_eq_equiv}
+use Rattle.std.specs.Cmp.Lexicographic.{lists_per}
 use Rattle.columns.specs.Masks.{set_of}
 use Rattle.pauli.specs.Letters.{Letter, number}
 use Rattle.pauli.specs.Words.{at, syndrome}
 use Rattle.columns.specs.Columns.{letter_in, against, hollow}
 use Rattle.code.specs.declared.code.Code.{Code}
-use Rattle.code.specs.Codes.{rows_of, clashing, places_of, front}
+use Rattle.code.specs.Codes.{rows_of, same_code, clashing, places_of, front}
 use Rattle.pauli.specs.Limits.{max_rows}
 use Rattle.pauli.specs.Text.{first}
 use Rattle.independence.specs.Pivots.{is_sum}
@@ -45,3 +47,9 @@ pub record RowLaws : Type 0 where
       → None ≡ first (syndrome (rows_of c) (front (places_of c) ns)) → false ≡ is_sum (rows_of c) (front (places_of c) ns)
       → Passed (places_of c) (rows_of c) text ns
   pub means : (c : Code) (text : List ℕ) → Means (places_of c) (rows_of c) text (row_refusal (places_of c) (rows_of c) text)
+
+-- the comparison of codes is symmetric and transitive
+pub same_code-laws : IsPartialEquivalence same_code
+same_code-laws =
+    let numbers = partial_equiv_from_equiv nat_eq_equiv in
+    and_per (on_per places_of numbers) (on_per rows_of (lists_per (lists_per (on_per number numbers))))

@@ -1,4 +1,6 @@
 // Rows kept by columns: at each place the set of rows that clash there with X and the set that clash with Z.
+#![tactic(auto)]
+
 mod column;
 pub mod mask;
 mod table;

@@ -1,4 +1,6 @@
 // A desk at which words are priced: settings are put on it line by line, and words are measured under them.
+#![tactic(auto)]
+
 mod desk;
 mod line;
 mod report;

@@ -1,4 +1,6 @@
 // Whether a word is a sum of the rows of a table, and of which, by linear equations over the two-element field.
+#![tactic(auto)]
+
 mod sums;
 
 pub use sums::sum_of;

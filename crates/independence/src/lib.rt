@@ -1,4 +1,6 @@
 // What is proved of independent rows. Each function stands for a theorem, which is its contract.
+#![tactic(auto)]
+
 ghost use Rattle.independence.specs.Independence.{Explained};
 ghost use Rattle.independence.specs.Pivots.{SumsDecided};
 

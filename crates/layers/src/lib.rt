@@ -1,4 +1,6 @@
 // Layers: channels that are made over any channel.
+#![tactic(auto)]
+
 mod erased;
 mod laws;
 mod marks;

@@ -1,4 +1,6 @@
 // Measures: values that say how dear an error is.
+#![tactic(auto)]
+
 mod ranking;
 mod scale;
 mod sum;

@@ -1,4 +1,6 @@
 // Letters and words of the Pauli group without phases.
+#![tactic(auto)]
+
 mod laws;
 mod letter;
 mod letters;

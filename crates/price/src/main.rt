@@ -1,5 +1,7 @@
 // Prices words under each channel. A line that begins with a name sets prices, marks or shifts; every other line is a word.
 // Lines are bytes, not text.
+#![tactic(auto)]
+
 mod shown;
 
 use desk::Desk;
