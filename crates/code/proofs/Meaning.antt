@@ -9,7 +9,6 @@ use Rattle.pauli.specs.Text.{fault, first, is_fault, word_of}
 use Rattle.pauli.proofs.Firsts.{first-true, first-none}
 use Rattle.pauli.proofs.WordLaws.{star_counts}
 use Rattle.independence.specs.Pivots.{is_sum}
-use Rattle.answers.specs.declared.refusal.Refusal.{Refusal}
 use Rattle.answers.specs.declared.refusal.Refusal.TheVariants.{Full, Length, NoLetter, Clash, Sum}
 use Rattle.code.specs.Refusals.{or_else, refused_if, row_refusal, text_refusal, clash_refusal, sum_refusal}
 use Rattle.code.specs.Meanings.{Means}

@@ -3,7 +3,7 @@ use Rattle.std.proofs.Common.{◌≡◌, ℕ, zero, suc, ◌+◌, ◌/◌, ◌^�
 use lib.ListN.{length-replicate}
 use Rattle.pauli.specs.Limits.{max_rows}
 use Rattle.pauli.specs.Letters.{Letter, X, Z, letter, clash}
-use Rattle.pauli.specs.Words.{odd, xor, add, select}
+use Rattle.pauli.specs.Words.{xor, add, select}
 use Rattle.pauli.specs.Laws.{chosen}
 use Rattle.pauli.proofs.WordLaws.{heads, tails}
 use Rattle.columns.specs.Masks.{bit, bits}

@@ -1,5 +1,5 @@
 -- Elimination with a partner for each row: it keeps its promise for every list of rows. Assumes nothing.
-use Rattle.std.proofs.Common.{◌≡◌, ℕ, suc, Bool, true, false, cond, ◌&&◌, ◌⊎◌, List, [], ◌∷◌, ◌++◌, length, Some, None, Option, sym, refl, ap, ◌∙◌, subst, ap₂, inl, inr, append-nil}
+use Rattle.std.proofs.Common.{◌≡◌, ℕ, suc, Bool, true, false, cond, ◌&&◌, ◌⊎◌, List, [], ◌∷◌, ◌++◌, length, Some, None, sym, refl, ap, ◌∙◌, subst, ap₂, inl, inr, append-nil}
 use mathlib.Core.Bool.{and_comm, and-false, false≢true}
 use Rattle.pauli.specs.Words.{Word, xor, add, star, blank, select, Long, is_blank}
 use Rattle.pauli.specs.Laws.{spot, add_if}
