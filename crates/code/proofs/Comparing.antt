@@ -1,6 +1,6 @@
 -- That codes compare as their places and rows do. Assumes nothing.
-use Rattle.std.proofs.Common.{◌≡◌, ◌&&◌, sym, ap, ◌∙◌, ap₂}
-use Rattle.std.specs.Bool.{Decides}
+use Rattle.std.proofs.Common.{◌≡◌, Bool, ◌&&◌, sym, ap, ◌∙◌, ap₂}
+use Rattle.std.specs.Bool.{Decides, one_answer}
 use Rattle.std.specs.Cmp.{unsigned_Decides, first_so, second_so}
 use Rattle.std.specs.Cmp.Lexicographic.{pointwise_decides}
 use Rattle.pauli.specs.Letters.{Letter, number, letter, same}
@@ -23,3 +23,7 @@ same_code-decides a b =
       λ e. (places.0 (first_so _ _ e), rows.0 (second_so _ _ e)),
       λ h. ap₂ ◌&&◌ (places.1 h.0) (rows.1 h.1),
     )
+
+-- an answer that is true just there is what `same_code` computes
+pub same_code-told : (a b : Code) (r : Bool) → Decides r ((places_of a ≡ places_of b) × (rows_of a ≡ rows_of b)) → r ≡ same_code a b
+same_code-told a b r h = one_answer r (same_code a b) h (same_code-decides a b)

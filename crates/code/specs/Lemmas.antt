@@ -1,4 +1,4 @@
--- Lemmas that inner functions are handed by their callers; each is proved, and none is anything to believe. Assumes nothing.
+-- Lemmas that inner functions are handed by their callers, and one that the comparison of codes has to show; each is proved, and none is anything to believe. Assumes nothing.
 use Rattle.std.specs.Prelude.{◌≡◌, ℕ, ◌+◌, ◌<◌, ◌≤◌, true, false, List, [], length, Some, None, nat_le, slice_index_or}
 use Rattle.std.specs.Cmp.{IsPartialEquivalence, and_per, on_per, partial_equiv_from_equiv, nat_eq_equiv}
 use Rattle.std.specs.Cmp.Lexicographic.{lists_per}
