@@ -34,9 +34,17 @@ pub none_written : (ns output : List ℕ) → output ≡ over 0 ns output
 unfolding over
 none_written ns output = refl
 
-pub all_written : (ns output : List ℕ) (i : ℕ) → i ≡ min (length output) max_places → over i ns output ≡ written ns output
+-- the letters that were written over the front of an output that has room for so many, and the rest of it
+pub all_written :
+    (ns output front : List ℕ) (room i : ℕ) → room ≡ min (length output) max_places → i ≡ length (take room output)
+    → front ≡ over i ns (take room output) → front ++ drop room output ≡ written ns output
 unfolding over written
-all_written ns output i e = ap (λ n. text_of (take n ns) ++ drop n output) e
+all_written ns output front room i r e h =
+    let l : length (take room output) ≡ room = length-take-le room output (omega arith) in
+    let none : drop i (take room output) ≡ [] = drop_all i (take room output) (omega arith) in
+    let text : front ≡ text_of (take room ns) =
+        h ∙ ap (λ ys. text_of (take i ns) ++ ys) none ∙ append-nil (text_of (take i ns)) ∙ ap (λ n. text_of (take n ns)) (e ∙ l) in
+    ap (λ ys. ys ++ drop room output) text ∙ ap (λ n. text_of (take n ns) ++ drop n output) r
 
 -- ---- what was written reads back
 

@@ -2,6 +2,7 @@
 use Rattle.std.specs.Prelude.{◌≡◌, ℕ, suc, ◌+◌, ◌-◌, ◌<◌, min, Bool, true, false, cond, List, [], ◌∷◌, ◌++◌, map, length, take, drop, replicate, Some, None, Option, Result, MatchResult, ◌==◌, nat_le, slice_index}
 use Rattle.std.specs.Option.{option_map, unwrap_or}
 use Rattle.pauli.specs.declared.letters.Letters.{Letters}
+use Rattle.pauli.specs.declared.text.NoWord.{NoWord}
 use Rattle.pauli.specs.Letters.{Letter, I, X, Y, Z, letter, number}
 use Rattle.pauli.specs.Limits.{max_places}
 use Rattle.pauli.specs.Words.{Word}
@@ -58,8 +59,8 @@ pub record Read (text numbers : List ℕ) : Type 0 where
   pub numbers_are : numbers ≡ numbers_of text
 
 -- what reading a text answers: its letters, or the first place at which it is no word
-abbrev pub Reading : List ℕ → Result Letters ℕ → Type 0
-Reading text answer = MatchResult answer (λ word. Read text word.numbers) (λ place. fault text ≡ Some place)
+abbrev pub Reading : List ℕ → Result Letters NoWord → Type 0
+Reading text answer = MatchResult answer (λ word. Read text word.numbers) (λ e. fault text ≡ Some e.place)
 
 -- each number of a table stands for a letter of its own: none is above 3
 abbrev pub Lettered : List ℕ → Type 0

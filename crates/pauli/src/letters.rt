@@ -4,6 +4,7 @@ ghost use Rattle.pauli.specs.Limits.{max_places};
 ghost use Rattle.pauli.specs.Tables.{entry, put};
 
 use super::MAX_PLACES;
+use super::places::{entry_at, put_entry};
 
 #[derive(Clone, Copy)]
 pub struct Letters {
@@ -19,22 +20,18 @@ impl Letters {
             numbers: [0; MAX_PLACES],
         }
     }
+
     // The number at a place from 1, and 0 at a place that the table does not have.
     pub fn at(&self, place: usize) -> u8
         ensures { result ≡ entry self.now.numbers place 0 }
     {
-        if place == 0 || place > MAX_PLACES {
-            return 0;
-        }
-        self.numbers[place - 1]
+        entry_at(&self.numbers, place, 0)
     }
 
     // Puts a number at a place from 1; a place that the table does not have is passed over.
     pub fn put(&mut self, place: usize, number: u8)
         ensures { self.new.numbers ≡ put self.old.numbers place number }
     {
-        if place >= 1 && place <= MAX_PLACES {
-            self.numbers[place - 1] = number;
-        }
+        put_entry(&mut self.numbers, place, number);
     }
 }

@@ -4,12 +4,14 @@
 mod laws;
 mod letter;
 mod letters;
+mod places;
 mod text;
 
 pub use laws::words_lawful;
-pub use letter::{letter_byte, letter_number, sum};
+pub use letter::{Letter, letter_byte, letter_number, sum};
 pub use letters::Letters;
-pub use text::{read_word, write_word};
+pub use places::{entry_at, put_entry};
+pub use text::{NoWord, read_word, write_word};
 
 // The most places that a word may have.
 pub const MAX_PLACES: usize = 128;

@@ -4,30 +4,36 @@ ghost use Rattle.pauli.specs.Limits.{max_places};
 ghost use Rattle.pauli.specs.Text.{padded, written, Lettered, Read, Reading};
 
 use super::MAX_PLACES;
-use super::letter::{letter_byte, letter_number};
+use super::letter::Letter;
 use super::letters::Letters;
 
+// A text is no word, and this is the first place that says so: no letter stands there, or there are too many.
+#[derive(Clone, Copy, PartialEq, Eq, Debug)]
+pub struct NoWord {
+    pub place: usize,
+}
+
 // The letters of a text that is not too long, or the place of the first byte that is no letter.
-fn spell(text: &[u8]) -> Result<Letters, usize>
+fn spell(text: &[u8]) -> Result<Letters, NoWord>
     requires { length text.now ≤ max_places }
     ensures { Reading text.now result }
 {
     let mut word = Letters::blank();
     for (i, byte) in text.iter().enumerate() {
-        match letter_number(*byte) {
-            Some(number) => word.numbers[i] = number,
-            None => return Err(i + 1),
-        }
+        let letter = Letter::named(*byte).ok_or(NoWord { place: i + 1 })?;
+        word.numbers[i] = letter.number();
     }
     Ok(word)
 }
 
 // The letters that a text spells, with I after them, or the first place at which it is no word.
-pub fn read_word(text: &[u8]) -> Result<Letters, usize>
+pub fn read_word(text: &[u8]) -> Result<Letters, NoWord>
     ensures { Reading text.now result }
 {
     if text.len() > MAX_PLACES {
-        return Err(MAX_PLACES + 1);
+        return Err(NoWord {
+            place: MAX_PLACES + 1,
+        });
     }
     spell(text)
 }
@@ -39,7 +45,8 @@ pub fn write_word(word: &Letters, output: &mut [u8])
     ensures back { Lettered word.now.numbers → length output.old ≤ max_places
         → Read output.new (padded (take (length output.old) word.now.numbers)) }
 {
-    for i in 0..output.len().min(MAX_PLACES) {
-        output[i] = letter_byte(word.numbers[i]);
+    let room = output.len().min(MAX_PLACES);
+    for (i, byte) in output[..room].iter_mut().enumerate() {
+        *byte = Letter::of(word.numbers[i]).byte();
     }
 }

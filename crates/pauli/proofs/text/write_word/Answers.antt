@@ -1,4 +1,4 @@
-use Rattle.std.proofs.Common.{◌≡◌, ◌∙◌, arith}
+use Rattle.std.proofs.Common.{◌≡◌, ◌++◌, drop, arith}
 use Rattle.pauli.specs.Text.{written}
 use Rattle.pauli.proofs.Writing.{writing_law, none_written, all_written, written_back}
 use Rattle.pauli.proofs.text.write_word.Goals as goal
@@ -10,5 +10,7 @@ pub returns : goal.returns
 returns c =
     let numbers = c.args.word.now.numbers in
     let output = c.args.output.now in
-    let bytes : c.loop-i.output ≡ written numbers output = c.loop-i.invariant.0 ∙ all_written numbers output c.loop-i.i (omega arith) in
-    record { bytes = bytes; back = written_back numbers output c.loop-i.output bytes }
+    let room = c.min-room.result in
+    let bytes : c.loop-i.byte-items ++ drop room output ≡ written numbers output =
+        all_written numbers output c.loop-i.byte-items room c.loop-i.i (omega arith) (omega arith) c.loop-i.invariant.0 in
+    record { bytes = bytes; back = written_back numbers output (c.loop-i.byte-items ++ drop room output) bytes }
