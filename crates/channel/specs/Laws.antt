@@ -1,6 +1,7 @@
 -- What the measure of a word obeys, for every measure that shows its laws. Assumes nothing.
 use Rattle.std.specs.Prelude.{◌≡◌, ℕ, ◌+◌, ◌<◌, ◌≤◌, [], ◌∷◌, ◌++◌, map, length}
-use Rattle.pauli.specs.Letters.{Letter, number}
+use Rattle.pauli.specs.declared.letter.Letter.{Letter}
+use Rattle.pauli.specs.Letters.{number}
 use Rattle.pauli.specs.Words.{Word}
 use Rattle.measure.specs.Scale.{Scale, Le}
 use Rattle.channel.specs.Prices.{Prices, cost, measure_of, measure_of_numbers}

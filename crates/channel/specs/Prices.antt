@@ -1,6 +1,7 @@
 -- What a channel means, what it answers when asked, and what a word measures. Assumes nothing.
 use Rattle.std.specs.Prelude.{ℕ, ◌+◌, cond, List, [], ◌∷◌, nat_lt}
-use Rattle.pauli.specs.Letters.{Letter, letter}
+use Rattle.pauli.specs.declared.letter.Letter.{Letter}
+use Rattle.pauli.specs.Letters.{letter}
 use Rattle.pauli.specs.Words.{Word}
 use Rattle.pauli.specs.Tables.{within}
 use Rattle.measure.specs.Scale.{Scale}

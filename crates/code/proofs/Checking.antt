@@ -3,7 +3,7 @@ use Rattle.std.proofs.Common.{◌≡◌, ℕ, suc, ◌+◌, ◌≤◌, Bool, tru
 use mathlib.Core.Bool.{false≢true}
 use Rattle.std.proofs.lemmas.List.{length-map, length-take-le}
 use Rattle.pauli.specs.Limits.{max_places, max_rows}
-use Rattle.pauli.specs.Letters.{I}
+use Rattle.pauli.specs.declared.letter.Letter.TheVariants.{I}
 use Rattle.pauli.specs.Words.{Word, Long, select, syndrome}
 use Rattle.pauli.specs.Text.{word_of, named, Read}
 use Rattle.pauli.proofs.Reading.{read_letters}

@@ -3,7 +3,8 @@ use Rattle.std.proofs.Common.{◌≡◌, Bool, ◌&&◌, sym, ap, ◌∙◌, ap�
 use Rattle.std.specs.Bool.{Decides, one_answer}
 use Rattle.std.specs.Cmp.{unsigned_Decides, first_so, second_so}
 use Rattle.std.specs.Cmp.Lexicographic.{pointwise_decides}
-use Rattle.pauli.specs.Letters.{Letter, number, letter, same}
+use Rattle.pauli.specs.declared.letter.Letter.{Letter}
+use Rattle.pauli.specs.Letters.{number, letter, same}
 use Rattle.pauli.proofs.LetterLaws.{letter-number}
 use Rattle.code.specs.declared.code.Code.{Code}
 use Rattle.code.specs.Codes.{places_of, rows_of, same_code}

@@ -3,7 +3,8 @@ use Rattle.std.specs.Prelude.{◌≡◌, ℕ, ◌+◌, ◌<◌, ◌≤◌, true,
 use Rattle.std.specs.Cmp.{IsPartialEquivalence, and_per, on_per, partial_equiv_from_equiv, nat_eq_equiv}
 use Rattle.std.specs.Cmp.Lexicographic.{lists_per}
 use Rattle.columns.specs.Masks.{set_of}
-use Rattle.pauli.specs.Letters.{Letter, number}
+use Rattle.pauli.specs.declared.letter.Letter.{Letter}
+use Rattle.pauli.specs.Letters.{number}
 use Rattle.pauli.specs.Words.{at, syndrome}
 use Rattle.columns.specs.Columns.{letter_in, against, hollow}
 use Rattle.code.specs.declared.code.Code.{Code}

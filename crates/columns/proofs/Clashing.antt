@@ -2,7 +2,9 @@
 use Rattle.std.proofs.Common.{◌≡◌, ℕ, zero, suc, ◌+◌, ◌/◌, ◌^◌, ◌<◌, Bool, List, [], ◌∷◌, ◌++◌, map, length, get_or, sym, refl, ap, ◌∙◌, ap₂, div-one, arith, pow_pos}
 use lib.Bits.{bit_xor, xor_assoc, xor_zero_r}
 use Rattle.std.proofs.lemmas.Nat.{xor_lt}
-use Rattle.pauli.specs.Letters.{Letter, I, X, Y, Z, clash}
+use Rattle.pauli.specs.declared.letter.Letter.{Letter}
+use Rattle.pauli.specs.declared.letter.Letter.TheVariants.{I, X, Y, Z}
+use Rattle.pauli.specs.Letters.{clash}
 use Rattle.pauli.specs.Words.{Word, xor, star, at, syndrome}
 use Rattle.columns.specs.Masks.{bit, bits}
 use Rattle.columns.specs.Columns.{told, letter_in, row, rows_from, rows, against, clashes, hollow, Within}

@@ -2,7 +2,9 @@
 use Rattle.std.proofs.Common.{◌≡◌, ℕ, zero, suc, ◌+◌, ◌^◌, ◌<◌, ◌≤◌, Bool, true, false, List, [], ◌∷◌, ◌++◌, length, get_or, take, set, replicate, sym, refl, ap, ◌∙◌, ap₂, pow-suc, zero-add, arith, pow_pos}
 use lib.Bits.{xor_lt}
 use lib.Pow.{pow-lt}
-use Rattle.pauli.specs.Letters.{Letter, X, Z, clash}
+use Rattle.pauli.specs.declared.letter.Letter.{Letter}
+use Rattle.pauli.specs.declared.letter.Letter.TheVariants.{X, Z}
+use Rattle.pauli.specs.Letters.{clash}
 use Rattle.pauli.specs.Words.{Word, xor, Long}
 use Rattle.pauli.proofs.WordLaws.{xor-false}
 use Rattle.columns.specs.Masks.{bit}

@@ -2,7 +2,9 @@
 use Rattle.std.proofs.Common.{◌≡◌, ℕ, suc, ◌/◌, ◌^◌, Bool, true, false, eqb, refl, ap, ◌∙◌, add-one}
 use lib.Bits.{bit_and, and_mask}
 use Rattle.std.proofs.lemmas.Nat.{shr-shr}
-use Rattle.pauli.specs.Letters.{Letter, I, X, Y, Z, clash, plus}
+use Rattle.pauli.specs.declared.letter.Letter.{Letter}
+use Rattle.pauli.specs.declared.letter.Letter.TheVariants.{I, X, Y, Z}
+use Rattle.pauli.specs.Letters.{clash, plus}
 use Rattle.pauli.specs.Words.{xor}
 use Rattle.columns.specs.Masks.{bit}
 use Rattle.columns.specs.Columns.{told}

@@ -1,7 +1,9 @@
 -- Rows kept by columns: at each place the set of rows that clash there with X, and the set that clash with Z.
 -- A set of rows is a mask whose bit j stands for row j, from 0. Assumes nothing.
 use Rattle.std.specs.Prelude.{ℕ, zero, suc, ◌^◌, ◌<◌, Bool, true, false, cond, List, [], ◌∷◌, map, bit_xor, slice_index_or}
-use Rattle.pauli.specs.Letters.{Letter, I, X, Y, Z, clash}
+use Rattle.pauli.specs.declared.letter.Letter.{Letter}
+use Rattle.pauli.specs.declared.letter.Letter.TheVariants.{I, X, Y, Z}
+use Rattle.pauli.specs.Letters.{clash}
 use Rattle.pauli.specs.Words.{Word}
 use Rattle.columns.specs.Masks.{bit}
 use Rattle.columns.specs.declared.column.Column.{Column}

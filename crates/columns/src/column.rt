@@ -1,7 +1,8 @@
 // A place of the rows: which of them clash there with X, and which with Z.
 ghost use Rattle.std.specs.Prelude.{◌≡◌, ◌<◌};
 ghost use Rattle.pauli.specs.Limits.{max_rows};
-ghost use Rattle.pauli.specs.Letters.{letter, number, clash, X, Z};
+ghost use Rattle.pauli.specs.declared.letter.Letter.TheVariants.{X, Z};
+ghost use Rattle.pauli.specs.Letters.{letter, number, clash};
 ghost use Rattle.columns.specs.Columns.{against, letter_in, marked};
 
 use crate::mask::has;

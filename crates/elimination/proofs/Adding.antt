@@ -2,7 +2,9 @@
 use Rattle.std.proofs.Common.{◌≡◌, ℕ, zero, suc, ◌+◌, ◌/◌, ◌^◌, ◌<◌, ◌≤◌, Bool, true, false, ◌↔◌, List, [], ◌∷◌, map, length, get_or, replicate, Some, None, sym, refl, ap, ◌∙◌, subst, ap₂, div-one, arith, below_more}
 use lib.ListN.{length-replicate}
 use Rattle.pauli.specs.Limits.{max_rows}
-use Rattle.pauli.specs.Letters.{Letter, X, Z, letter, clash}
+use Rattle.pauli.specs.declared.letter.Letter.{Letter}
+use Rattle.pauli.specs.declared.letter.Letter.TheVariants.{X, Z}
+use Rattle.pauli.specs.Letters.{letter, clash}
 use Rattle.pauli.specs.Words.{xor, add, select}
 use Rattle.pauli.specs.Laws.{chosen}
 use Rattle.pauli.proofs.WordLaws.{heads, tails}

@@ -1,7 +1,9 @@
 -- What the layers do to the measure of a word. Assumes nothing.
 use Rattle.std.proofs.Common.{◌≡◌, ℕ, suc, ◌+◌, ◌%◌, ◌<◌, ◌≤◌, Bool, true, false, cond, List, [], ◌∷◌, length, sym, refl, ap, ◌∙◌, arith}
 use Rattle.std.proofs.lemmas.List.{get_or-map, length-map}
-use Rattle.pauli.specs.Letters.{Letter, I, letter, plus}
+use Rattle.pauli.specs.declared.letter.Letter.{Letter}
+use Rattle.pauli.specs.declared.letter.Letter.TheVariants.{I}
+use Rattle.pauli.specs.Letters.{letter, plus}
 use Rattle.pauli.specs.Limits.{max_places}
 use Rattle.pauli.specs.Words.{Word, add, at}
 use Rattle.pauli.specs.Tables.{within, entry}

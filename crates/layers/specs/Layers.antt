@@ -1,6 +1,7 @@
 -- The layers by their meanings. Assumes nothing.
 use Rattle.std.specs.Prelude.{ℕ, ◌%◌, Bool, false, cond, List}
-use Rattle.pauli.specs.Letters.{Letter, letter, plus}
+use Rattle.pauli.specs.declared.letter.Letter.{Letter}
+use Rattle.pauli.specs.Letters.{letter, plus}
 use Rattle.pauli.specs.Tables.{entry}
 use Rattle.measure.specs.Scale.{Scale}
 use Rattle.measure.specs.Measures.{as_worst}

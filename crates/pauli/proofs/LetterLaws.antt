@@ -1,7 +1,9 @@
 -- The laws of letters, each by a test of all cases that computes. Assumes nothing.
 use Rattle.std.proofs.Common.{◌≡◌, Bool, true, false, ◌&&◌, T, sym, refl, ap, ◌∙◌, eqb→eq}
 use mathlib.Core.Bool.{beq}
-use Rattle.pauli.specs.Letters.{Letter, I, X, Y, Z, number, letter, same, clash, plus}
+use Rattle.pauli.specs.declared.letter.Letter.{Letter}
+use Rattle.pauli.specs.declared.letter.Letter.TheVariants.{I, X, Y, Z}
+use Rattle.pauli.specs.Letters.{number, letter, same, clash, plus}
 use Rattle.pauli.specs.Words.{xor}
 
 and_left : (a b : Bool) → T (a && b) → T a

@@ -3,7 +3,9 @@ use Rattle.std.proofs.Common.{◌≡◌, ℕ, suc, ◌+◌, ◌-◌, ◌<◌, �
 use Rattle.std.specs.Option.{option_map}
 use Rattle.std.proofs.lemmas.List.{take_more, take_all, map-append, map_push, take-append-drop, drop_more, length-map, length_push, length-take-le, take_at, set_at}
 use Rattle.std.proofs.lemmas.Bool.{le-leb}
-use Rattle.pauli.specs.Letters.{Letter, I, number}
+use Rattle.pauli.specs.declared.letter.Letter.{Letter}
+use Rattle.pauli.specs.declared.letter.Letter.TheVariants.{I}
+use Rattle.pauli.specs.Letters.{number}
 use Rattle.pauli.specs.Limits.{max_places}
 use Rattle.pauli.specs.Text.{first, is_fault, fault, word_of, named, unread, letters_of, padded, numbers_of, Read}
 use Rattle.pauli.proofs.LetterLaws.{letter-number}

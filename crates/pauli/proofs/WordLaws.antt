@@ -1,7 +1,9 @@
 -- The laws of sums and commutation of words. Assumes nothing.
 use Rattle.std.proofs.Common.{◌≡◌, ℕ, zero, suc, ◌%◌, ◌<◌, ◌≤◌, Bool, true, false, cond, not, ◌&&◌, eqb, List, [], ◌∷◌, length, sym, refl, ap, ◌∙◌, ap₂, arith}
 use lib.ListN.{length-replicate}
-use Rattle.pauli.specs.Letters.{Letter, I, X, Y, Z, clash, plus}
+use Rattle.pauli.specs.declared.letter.Letter.{Letter}
+use Rattle.pauli.specs.declared.letter.Letter.TheVariants.{I, X, Y, Z}
+use Rattle.pauli.specs.Letters.{clash, plus}
 use Rattle.pauli.specs.Words.{Word, odd, xor, add, at, clash_count, star, blank, is_blank, Long, select, syndrome}
 use Rattle.pauli.specs.Laws.{add_if, spot, chosen, weight, WordLaws}
 use Rattle.pauli.proofs.LetterLaws.{plus_comm, plus_assoc, plus_self, plus-I, clash_sym, clash-I, clash-plus}

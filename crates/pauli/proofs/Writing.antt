@@ -2,7 +2,9 @@
 use Rattle.std.proofs.Common.{◌≡◌, ℕ, zero, suc, ◌+◌, ◌<◌, ◌≤◌, min, List, [], ◌∷◌, ◌++◌, map, length, get_or, take, drop, set, Some, None, unwrap_or, sym, refl, ap, ◌∙◌, subst, ap₂, append_assoc, append-nil, arith, lit<}
 use Rattle.std.specs.Option.{option_map}
 use Rattle.std.proofs.lemmas.List.{map_more, drop_more, drop_all, length-map, length-take, length-take-le, set_at}
-use Rattle.pauli.specs.Letters.{Letter, I, X, Y, Z, number, letter}
+use Rattle.pauli.specs.declared.letter.Letter.{Letter}
+use Rattle.pauli.specs.declared.letter.Letter.TheVariants.{I, X, Y, Z}
+use Rattle.pauli.specs.Letters.{number, letter}
 use Rattle.pauli.specs.Limits.{max_places}
 use Rattle.pauli.specs.Text.{first, is_fault, unread, word_of, named, spelled, padded, text_of, written, Lettered, Read}
 use Rattle.pauli.proofs.Reading.{fault_short}

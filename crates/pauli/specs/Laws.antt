@@ -1,6 +1,6 @@
 -- The laws of words: a vector space over the two-element field, with a form on it. Assumes nothing.
 use Rattle.std.specs.Prelude.{◌≡◌, ℕ, suc, Bool, true, false, cond, ◌&&◌, List, [], ◌∷◌, length, ◌≢◌}
-use Rattle.pauli.specs.Letters.{I, X, Y, Z}
+use Rattle.pauli.specs.declared.letter.Letter.TheVariants.{I, X, Y, Z}
 use Rattle.pauli.specs.Words.{Word, xor, odd, add, clash_count, star, blank, Long, select, syndrome}
 
 -- a word added to another where the bit says so

@@ -1,9 +1,7 @@
--- The four letters of the Pauli group without phases. Assumes nothing.
+-- The four letters of the Pauli group without phases: the code's own enum. Assumes nothing.
 use Rattle.std.specs.Prelude.{ℕ, zero, suc, Bool, true, false, not, ◌&&◌, ◌==◌}
-
--- the identity and the three Pauli matrices: the code's own enum
-pub use Rattle.pauli.specs.declared.letter.Letter.{Letter}
-pub use Rattle.pauli.specs.declared.letter.Letter.TheVariants.{I, X, Y, Z}
+use Rattle.pauli.specs.declared.letter.Letter.{Letter}
+use Rattle.pauli.specs.declared.letter.Letter.TheVariants.{I, X, Y, Z}
 
 -- a letter's number
 abbrev pub number : Letter → ℕ

@@ -3,7 +3,9 @@ use Rattle.std.specs.Prelude.{◌≡◌, ℕ, suc, ◌+◌, ◌-◌, ◌<◌, mi
 use Rattle.std.specs.Option.{option_map, unwrap_or}
 use Rattle.pauli.specs.declared.letters.Letters.{Letters}
 use Rattle.pauli.specs.declared.text.NoWord.{NoWord}
-use Rattle.pauli.specs.Letters.{Letter, I, X, Y, Z, letter, number}
+use Rattle.pauli.specs.declared.letter.Letter.{Letter}
+use Rattle.pauli.specs.declared.letter.Letter.TheVariants.{I, X, Y, Z}
+use Rattle.pauli.specs.Letters.{letter, number}
 use Rattle.pauli.specs.Limits.{max_places}
 use Rattle.pauli.specs.Words.{Word}
 

@@ -1,6 +1,8 @@
 -- Words of letters: their sums, when they commute, and the syndrome of an error. Assumes nothing.
 use Rattle.std.specs.Prelude.{◌≡◌, ℕ, suc, ◌%◌, Bool, true, false, cond, ◌&&◌, List, [], ◌∷◌, length, replicate, ◌==◌, slice_index_or}
-use Rattle.pauli.specs.Letters.{Letter, I, clash, plus, is_I}
+use Rattle.pauli.specs.declared.letter.Letter.{Letter}
+use Rattle.pauli.specs.declared.letter.Letter.TheVariants.{I}
+use Rattle.pauli.specs.Letters.{clash, plus, is_I}
 
 -- a letter at each place
 abbrev pub Word : Type 0
