@@ -1,1 +1,1 @@
-mod OneBit
+pub mod OneBit

@@ -2,19 +2,15 @@
 use Rattle.std.proofs.Common.{◌≡◌, ℕ, zero, suc, ◌/◌, ◌<◌, ◌≤◌, false, get_or, refl, ◌∙◌, arith}
 use Rattle.columns.specs.Masks.{bit, bits}
 use Rattle.columns.proofs.Masks.{bit-zero, bit-suc}
-use Rattle.answers.specs.Lemmas.{ReadLaws}
 
-within : (j r m : ℕ) → j < r → bit j m ≡ get_or (bits r m) j false
+pub within : (j r m : ℕ) → j < r → bit j m ≡ get_or (bits r m) j false
 unfolding bits
 within j zero m h = absurd (omega arith)
 within zero (suc r) m h = bit-zero m
 within (suc j) (suc r) m h = bit-suc j m ∙ within j r (m / 2) (omega arith)
 
-past : (j r m : ℕ) → r ≤ j → false ≡ get_or (bits r m) j false
+pub past : (j r m : ℕ) → r ≤ j → false ≡ get_or (bits r m) j false
 unfolding bits
 past j zero m h = refl
 past zero (suc r) m h = absurd (omega arith)
 past (suc j) (suc r) m h = past j r (m / 2) (omega arith)
-
-pub read_laws : ReadLaws
-read_laws = record { within = within; past = past }

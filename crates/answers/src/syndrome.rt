@@ -1,5 +1,4 @@
 // The syndrome of an error.
-use columns::mask::has;
 use std::fmt;
 
 mod bits;
@@ -14,8 +13,9 @@ pub struct Syndrome {
 // The bits as text, row 1 first.
 impl fmt::Display for Syndrome {
     fn fmt<W: fmt::Write>(&self, f: &mut fmt::Formatter<W>) -> fmt::Result {
+        // A bit of a mask has no place in memory to iterate over, only a number.
         for row in 0..self.rows {
-            f.write_str(if has(self.odd, row) { "1" } else { "0" })?;
+            f.write_str(if self.bit(row) { "1" } else { "0" })?;
         }
         Ok(())
     }

@@ -2,7 +2,6 @@
 ghost use Rattle.std.specs.Prelude.{◌≡◌, false, slice_index_or};
 ghost use Rattle.columns.specs.Masks.{bits};
 ghost use Rattle.answers.specs.Syndromes.{bits_of};
-ghost use Rattle.answers.specs.Lemmas.{ReadLaws};
 
 use super::Syndrome;
 use columns::mask::has;
@@ -15,18 +14,11 @@ impl Syndrome {
         Syndrome { rows, odd }
     }
 
-    // The bit of a row, by what is known of lists of bits.
-    fn read(&self, row: usize) -> bool
-        requires { ReadLaws }
-        ensures { result ≡ slice_index_or (bits_of self.now) row false }
-    {
-        row < self.rows && has(self.odd, row)
-    }
-
     // Whether the error does not commute with a row, from 0; false past the last row.
+    #[tactic(auto, using(crate::proofs::OneBit::within, crate::proofs::OneBit::past))]
     pub fn bit(&self, row: usize) -> bool
         ensures { result ≡ slice_index_or (bits_of self.now) row false }
     {
-        self.read(row)
+        row < self.rows && has(self.odd, row)
     }
 }
