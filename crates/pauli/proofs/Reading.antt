@@ -13,10 +13,10 @@ use Rattle.pauli.proofs.Firsts.{first_push_false, first-at}
 
 fault-of : (o : Option Letter) → None ≡ option_map number o → unread o ≡ true
 fault-of None h = refl
-fault-of (Some e) h = let z : ◌≡◌ {A = ℕ} 0 1 = cc in absurd (omega arith)
+fault-of (Some e) h = absurd cc
 
 read_of : (o : Option Letter) (n : ℕ) → Some n ≡ option_map number o → (unread o ≡ false) × (number (unwrap_or o I) ≡ n)
-read_of None n h = let z : ◌≡◌ {A = ℕ} 0 1 = cc in absurd (omega arith)
+read_of None n h = absurd cc
 read_of (Some e) n h = (refl, cc)
 
 -- a text that is not too long has its fault at the first byte that is no letter
