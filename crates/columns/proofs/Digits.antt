@@ -1,14 +1,11 @@
 -- A mask and its list of bits: each is had from the other, and the first true bit is the lowest set one. Assumes nothing.
-use Rattle.std.proofs.Common.{◌≡◌, ℕ, zero, suc, ◌+◌, ◌*◌, ◌/◌, ◌%◌, ◌^◌, ◌<◌, ◌≤◌, Bool, true, false, cond, eqb, List, [], ◌∷◌, length, Some, None, sym, refl, ap, ◌∙◌, ap₂, pow-suc, arith}
+use Rattle.std.proofs.Common.{◌≡◌, ℕ, zero, suc, ◌+◌, ◌*◌, ◌/◌, ◌%◌, ◌^◌, ◌<◌, ◌≤◌, Bool, true, false, cond, eqb, List, [], ◌∷◌, length, Some, None, ◌≢◌, sym, refl, ap, ◌∙◌, ap₂, pow-suc, arith}
 use lib.Count.{count_trailing_zeros, under}
 use Rattle.std.specs.Option.{option_map}
 use Rattle.pauli.specs.Limits.{max_rows}
 use Rattle.pauli.specs.Words.{odd}
 use Rattle.pauli.specs.Text.{first}
 use Rattle.columns.specs.Masks.{bits, set_of}
-use Rattle.columns.specs.Lemmas.{BitLaws, LowestLaws}
-use Rattle.columns.proofs.Masks.{bit_high}
-use Rattle.columns.proofs.Telling.{read-bit}
 
 half_below : (a k : ℕ) → a < 2 ^ suc k → a / 2 < 2 ^ k
 half_below a k h = omega (arith, pow-suc 2 k)
@@ -73,14 +70,12 @@ unfolding bits
 none_first zero = refl
 none_first (suc r) = ap (option_map suc) (none_first r)
 
-pub lowest_laws : LowestLaws
-lowest_laws =
-    record {
-      none = λ bs e. sym (none_first (length bs)) ∙ (ap (λ (m : ℕ). first (bits (length bs) m)) e ∙ ap first (bits_set bs));
-      some = λ m bs n l e.
-          sym (lowest (length bs) max_rows m l (omega arith) (rw e (set_below bs)))
-          ∙ (ap (λ (k : ℕ). first (bits (length bs) k)) e ∙ ap first (bits_set bs));
-    }
+-- an empty set has no first row
+pub no_first : (bs : List Bool) → 0 ≡ set_of bs → None ≡ first bs
+no_first bs e = sym (none_first (length bs)) ∙ (ap (λ (m : ℕ). first (bits (length bs) m)) e ∙ ap first (bits_set bs))
 
-pub bit_laws : BitLaws
-bit_laws = record { shifted = read-bit; past = λ j m l h. sym (bit_high j max_rows m l h) }
+-- the first row of any other has as many zeros below it as there are rows before it
+pub first_lowest : (m : ℕ) (bs : List Bool) → (m ≢ 0) → length bs ≤ max_rows → m ≡ set_of bs → Some (count_trailing_zeros max_rows m + 1) ≡ first bs
+first_lowest m bs n l e =
+    sym (lowest (length bs) max_rows m l (omega arith) (rw e (set_below bs)))
+    ∙ (ap (λ (k : ℕ). first (bits (length bs) k)) e ∙ ap first (bits_set bs))

@@ -5,6 +5,7 @@ use native.Mathlib.Nat.{zero-div, mod-mod}
 use lib.Bits.{bit_and, bit_xor, xor_shr, xor_mod, and_shr, and_mod}
 use lib.Count.{ones, ones_step}
 use Rattle.std.proofs.lemmas.Nat.{shr-shr}
+use Rattle.pauli.specs.Limits.{max_rows}
 use Rattle.pauli.specs.Words.{odd, xor}
 use Rattle.pauli.specs.Laws.{chosen}
 use Rattle.pauli.proofs.WordLaws.{xor_swap, xor-false}
@@ -154,3 +155,7 @@ pub bit_high : (i r m : ℕ) → r ≤ i → m < 2 ^ r → bit i m ≡ false
 bit_high i zero m l h = let z : m ≡ 0 = omega arith in ap (λ n. bit i n) z ∙ bit-none i
 bit_high zero (suc r) m l h = absurd (omega arith)
 bit_high (suc i) (suc r) m l h = bit-suc i m ∙ bit_high i r (m / 2) (omega arith) (omega (arith, pow-suc 2 r))
+
+-- no bit is set past the last
+pub bit_past : (i m : ℕ) → max_rows ≤ i → m < 2 ^ max_rows → bit i m ≡ false
+bit_past i m l h = bit_high i max_rows m l h

@@ -59,6 +59,3 @@ clash-told-I false false = refl
 
 pub shift : (m j : ℕ) → m / 2 ^ j / 2 ≡ m / 2 ^ suc j
 shift m j = shr-shr m j 1 ∙ ap (λ (n : ℕ). m / 2 ^ n) (add-one j)
-
-pub read-bit : (j n : ℕ) → eqb (bit_and (n / 2 ^ j) 1) 1 ≡ bit j n
-read-bit j n = ap (λ k. eqb k 1) (and_mask (n / 2 ^ j) 1)
