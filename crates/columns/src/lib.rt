@@ -5,5 +5,5 @@ mod column;
 pub mod mask;
 mod table;
 
-pub use column::{Column, clashes_with_x, clashes_with_z};
+pub use column::Column;
 pub use table::Columns;

@@ -1,8 +1,7 @@
-use Rattle.std.proofs.Common.{◌≡◌, take}
+use Rattle.std.proofs.Common.{◌≡◌, length, take}
 use Rattle.pauli.specs.Text.{letters_of}
 use Rattle.columns.specs.Columns.{clashes}
-use Rattle.columns.proofs.Steps.{ClashLaws}
 use Rattle.columns.proofs.table.Columns.clashes.Given as goal
 
-abbrev pub invariant-loop-i : goal.invariant-loop-i
-invariant-loop-i l = (l.odd ≡ clashes (letters_of (take l.i l.word.numbers)) (take l.i l.self.table)) × ClashLaws
+abbrev pub invariant-loop-column : goal.invariant-loop-column
+invariant-loop-column l = l.odd ≡ clashes (letters_of (take (length l.yielded) l.word)) (take (length l.yielded) l.self.table)
