@@ -5,7 +5,8 @@ use Rattle.std.proofs.lemmas.List.{length-map, length-take-le}
 use Rattle.pauli.specs.Limits.{max_places, max_rows}
 use Rattle.pauli.specs.declared.letter.Letter.TheVariants.{I}
 use Rattle.pauli.specs.Words.{Word, Long, select, syndrome}
-use Rattle.pauli.specs.Text.{word_of, named, Read}
+use Rattle.pauli.specs.Letters.{letter}
+use Rattle.pauli.specs.Text.{word_of, letters_of, named, Read}
 use Rattle.pauli.proofs.Reading.{read_letters}
 use Rattle.independence.specs.Independence.{Commuting, Independent}
 use Rattle.independence.specs.Pivots.{is_sum, addends, Decided}
@@ -16,7 +17,7 @@ use Rattle.columns.specs.Masks.{bits, set_of}
 use Rattle.columns.specs.Columns.{rows, clashes, with_row, Within}
 use Rattle.elimination.specs.Sums.{Solved}
 use Rattle.elimination.proofs.Adding.{rows-within}
-use Rattle.columns.proofs.Clashing.{clashes-syndrome, clashes_below}
+use Rattle.columns.proofs.Clashing.{clashes-syndrome, clashes_below, clashes-take}
 use Rattle.columns.proofs.Digits.{bits_set, set_bits}
 use Rattle.columns.proofs.Marking.{length-rows, long_rows, within-take}
 use Rattle.code.specs.Table.{Unused, words_of}
@@ -62,12 +63,18 @@ module _ (n : ℕ) (rs : List Word) (w : Word) (long : Long n rs) (short : lengt
   pub sum-none : is_sum rs w ≡ false → (ks : List Bool) → select n ks rs ≡ w → ⊥
   sum-none e ks h = false≢true (sym e ∙ some_sum ks h)
 
+-- a text of n letters that was read
+pub told_spelt : (n : ℕ) (text ns : List ℕ) → length text ≡ n → Read text ns → Spelt n text ns
+told_spelt n text ns l r =
+    let e : front n ns ≡ word_of text = ap (λ k. front k ns) (sym l) ∙ read_letters text ns r.numbers_are in
+    record { long = l; wide = ap length e ∙ (length-word text ∙ l); none = when_spelt n text l r.none; read = e }
+
 module _ (self : Code) where
   abbrev columns : List Column
   columns = take self.places self.columns.table
 
-  pub rows-count : length (rows_of self) ≡ self.rows
-  rows-count = length-rows self.rows columns
+  pub rows_count : length (rows_of self) ≡ self.rows
+  rows_count = length-rows self.rows columns
 
   length-columns : length columns ≡ self.places
   length-columns = let f = self.few in let l = self.long in length-take-le self.places self.columns.table (omega arith)
@@ -76,7 +83,7 @@ module _ (self : Code) where
   rows_long = long_rows self.places self.rows columns length-columns
 
   pub rows_few : length (rows_of self) ≤ max_rows
-  rows_few = let c = rows-count in let r = self.room in omega arith
+  rows_few = let c = rows_count in let r = self.room in omega arith
 
   pub admitted : Admitted (places_of self) (rows_of self)
   admitted =
@@ -97,33 +104,35 @@ module _ (self : Code) where
   narrow : (ks : List Bool) → select (length columns) ks (rows max_rows columns) ≡ select self.places ks (rows_of self)
   narrow ks = rows-within self.rows ks columns self.room columns-within ∙ ap (λ m. select m ks (rows_of self)) length-columns
 
-  pub told_spelt : (text ns : List ℕ) → length text ≡ self.places → Read text ns → Spelt self.places text ns
-  told_spelt text ns l r =
-      let e : front self.places ns ≡ word_of text = ap (λ k. front k ns) (sym l) ∙ read_letters text ns r.numbers_are in
-      record { long = l; wide = ap length e ∙ (length-word text ∙ l); none = when_spelt self.places text l r.none; read = e }
-
-  pub odd_set : (w : Word) → clashes w columns ≡ set_of (syndrome (rows_of self) w)
-  odd_set w = sym (set_bits self.rows (clashes w columns) (clashes_below self.rows w columns columns-within)) ∙ ap set_of (clashes-syndrome self.rows w columns)
+  pub odd_set : (ns : List ℕ) (odd : ℕ) → length ns ≡ self.places → odd ≡ clashes (letters_of ns) self.columns.table
+      → odd ≡ set_of (syndrome (rows_of self) (letters_of ns))
+  odd_set ns odd l e =
+      let w : Word = letters_of ns in
+      e
+      ∙ sym (clashes-take w self.columns.table)
+      ∙ ap (λ n. clashes w (take n self.columns.table)) (length-map ns letter ∙ l)
+      ∙ sym (set_bits self.rows (clashes w columns) (clashes_below self.rows w columns columns-within))
+      ∙ ap set_of (clashes-syndrome self.rows w columns)
 
   pub odd_few : (w : Word) → length (syndrome (rows_of self) w) ≤ max_rows
   odd_few w = omega (arith, length-syndrome (rows_of self) w, rows_few)
 
-  pub told-bits : (w : Word) (odd : ℕ) → odd ≡ set_of (syndrome (rows_of self) w) → bits self.rows odd ≡ syndrome (rows_of self) w
-  told-bits w odd e = ap₂ bits (sym (length-syndrome (rows_of self) w ∙ rows-count)) e ∙ bits_set (syndrome (rows_of self) w)
+  pub told_bits : (w : Word) (odd : ℕ) → odd ≡ set_of (syndrome (rows_of self) w) → bits self.rows odd ≡ syndrome (rows_of self) w
+  told_bits w odd e = ap₂ bits (sym (length-syndrome (rows_of self) w ∙ rows_count)) e ∙ bits_set (syndrome (rows_of self) w)
 
-  pub summed : (ns : List ℕ) → length (front self.places ns) ≡ self.places → (found : Option ℕ) → Solved columns (take self.places ns) found
-      → is_some found ≡ is_sum (rows_of self) (front self.places ns)
-  summed ns short (Some m) h =
-      sym (some_sum self.places (rows_of self) (front self.places ns) rows_long short (bits max_rows m) (sym (narrow (bits max_rows m)) ∙ h))
-  summed ns short None h =
-      sym (no_sum self.places (rows_of self) (front self.places ns) rows_long short (λ ks q. h ks (narrow ks ∙ q)))
+  pub summed : (ns : List ℕ) → length ns ≡ self.places → (found : Option ℕ) → Solved columns ns found
+      → is_some found ≡ is_sum (rows_of self) (letters_of ns)
+  summed ns l (Some m) h =
+      sym (some_sum self.places (rows_of self) (letters_of ns) rows_long (length-map ns letter ∙ l) (bits max_rows m) (sym (narrow (bits max_rows m)) ∙ h))
+  summed ns l None h =
+      sym (no_sum self.places (rows_of self) (letters_of ns) rows_long (length-map ns letter ∙ l) (λ ks q. h ks (narrow ks ∙ q)))
 
   -- ---- a word that fits, put into the table
 
   module _ (w : Word) (fits : Fits self.places (rows_of self) w)
       (table : List Column) (is : table ≡ with_row self.rows w self.columns.table) where
     pub put_room : self.rows + 1 ≤ max_rows
-    put_room = let c = rows-count in let r = fits.room in omega arith
+    put_room = let c = rows_count in let r = fits.room in omega arith
 
     pub put_long : length table ≡ max_places
     put_long = ap length is ∙ added_long self.places self.rows self.columns.table w self.within self.few self.long fits.long

@@ -1,8 +1,12 @@
 -- That codes compare as their places and rows do. Assumes nothing.
-use Rattle.std.proofs.Common.{◌≡◌, Bool, ◌&&◌, sym, ap, ◌∙◌, ap₂}
+use Rattle.std.proofs.Common.{◌≡◌, Bool, true, false, ◌&&◌, List, ◌≢◌, sym, ap, ◌∙◌, ap₂}
+use Rattle.std.specs.Prelude.{◌==◌}
 use Rattle.std.specs.Bool.{Decides, one_answer}
 use Rattle.std.specs.Cmp.{unsigned_Decides, first_so, second_so}
-use Rattle.std.specs.Cmp.Lexicographic.{pointwise_decides}
+use Rattle.std.specs.Cmp.Lexicographic.{pointwise, pointwise_decides}
+use Rattle.columns.specs.declared.column.Column.{Column}
+use Rattle.code.proofs.Canonical.{same_column, rows_by_table, same-places-rows, rows_number}
+use mathlib.Core.Bool.{false≢true}
 use Rattle.pauli.specs.declared.letter.Letter.{Letter}
 use Rattle.pauli.specs.Letters.{number, letter, same}
 use Rattle.pauli.proofs.LetterLaws.{letter-number}
@@ -16,8 +20,20 @@ same-decides a b = (
   λ e. (unsigned_Decides (number a) (number b)).1 (ap number e),
 )
 
+-- the derived test of two columns is right, and so that of two tables
+column-decides : (c d : Column) → Decides ((c.x == d.x) && (c.z == d.z)) (c ≡ d)
+column-decides c d =
+    let x = unsigned_Decides c.x d.x in
+    let z = unsigned_Decides c.z d.z in (
+      λ e. same_column c d (x.0 (first_so _ _ e)) (z.0 (second_so _ _ e)),
+      λ e. ap₂ ◌&&◌ (x.1 (ap (λ (k : Column). k.x) e)) (z.1 (ap (λ (k : Column). k.z) e)),
+    )
+
+tables-decide : (a b : List Column) → Decides (pointwise (λ c d. (c.x == d.x) && (c.z == d.z)) a b) (a ≡ b)
+tables-decide a b = pointwise_decides column-decides a b
+
 -- the test of two codes is right
-pub same_code-decides : (a b : Code) → Decides (same_code a b) ((places_of a ≡ places_of b) × (rows_of a ≡ rows_of b))
+same_code-decides : (a b : Code) → Decides (same_code a b) ((places_of a ≡ places_of b) × (rows_of a ≡ rows_of b))
 same_code-decides a b =
     let places = unsigned_Decides (places_of a) (places_of b) in
     let rows = pointwise_decides (pointwise_decides same-decides) (rows_of a) (rows_of b) in (
@@ -25,6 +41,37 @@ same_code-decides a b =
       λ h. ap₂ ◌&&◌ (places.1 h.0) (rows.1 h.1),
     )
 
--- an answer that is true just there is what `same_code` computes
-pub same_code-told : (a b : Code) (r : Bool) → Decides r ((places_of a ≡ places_of b) × (rows_of a ≡ rows_of b)) → r ≡ same_code a b
-same_code-told a b r h = one_answer r (same_code a b) h (same_code-decides a b)
+-- ---- what each step of the comparison tells
+
+module _ (a b : Code) where
+  abbrev Same : Type 0
+  Same = (places_of a ≡ places_of b) × (rows_of a ≡ rows_of b)
+
+  told : (r : Bool) → Decides r Same → r ≡ same_code a b
+  told r h = one_answer r (same_code a b) h (same_code-decides a b)
+
+  pub other_places : a.places ≢ b.places → false ≡ same_code a b
+  other_places n = told false (λ h. absurd (false≢true h), λ h. absurd (n h.0))
+
+  pub other_rows : a.rows ≢ b.rows → false ≡ same_code a b
+  other_rows n = told false (λ h. absurd (false≢true h), λ h. absurd (n (rows_number a b h.1)))
+
+  -- where the sizes are the same, the tables decide
+  module _ (r : Bool) (p : a.places ≡ b.places) (q : a.rows ≡ b.rows)
+      (e : r ≡ pointwise (λ (c d : Column). (c.x == d.x) && (c.z == d.z)) a.columns.table b.columns.table) where
+    decided : Decides r Same
+    decided =
+        let t = rw (← e) at (tables-decide a.columns.table b.columns.table) in
+        (λ h. (p, rows_by_table a b p q (t.0 h)), λ h. t.1 (same-places-rows a b p q h.1))
+
+    pub tables_told : r ≡ same_code a b
+    tables_told = told r decided
+
+  pub same_places : (r : Bool) → r ≡ same_code a b → r ≡ true → places_of a ≡ places_of b
+  same_places r e h = ((rw (← e) at (same_code-decides a b)).0 h).0
+
+  pub same_rows : (r : Bool) → r ≡ same_code a b → r ≡ true → rows_of a ≡ rows_of b
+  same_rows r e h = ((rw (← e) at (same_code-decides a b)).0 h).1
+
+  pub test_passed : (r : Bool) → r ≡ same_code a b → places_of a ≡ places_of b → rows_of a ≡ rows_of b → r ≡ true
+  test_passed r e p q = (rw (← e) at (same_code-decides a b)).1 (p, q)

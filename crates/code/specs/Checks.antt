@@ -7,7 +7,6 @@ use Rattle.pauli.specs.Text.{word_of}
 use Rattle.code.specs.declared.code.Code.{Code}
 use Rattle.answers.specs.declared.refusal.Refusal.{Refusal}
 use Rattle.code.specs.Codes.{places_of, rows_of, front}
-use Rattle.code.specs.Meanings.{Means}
 use Rattle.code.specs.Refusals.{text_refusal, row_refusal}
 
 -- the word of a code's length in a table of letters
@@ -42,7 +41,3 @@ SpeltOr code text r = MatchResult r (λ w. Spelt (places_of code) text w.numbers
 abbrev pub PassedOr : Code → List ℕ → Result Letters Refusal → Type 0
 PassedOr code text r =
     MatchResult r (λ w. Passed (places_of code) (rows_of code) text w.numbers) (λ e. row_refusal (places_of code) (rows_of code) text ≡ Some e)
-
--- the refusal of a row, or that there is none, means what it should
-abbrev pub Meant : Code → List ℕ → Type 0
-Meant code text = Means (places_of code) (rows_of code) text (row_refusal (places_of code) (rows_of code) text)

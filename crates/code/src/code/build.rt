@@ -49,11 +49,13 @@ impl Code {
         ensures places { places_of self.new ≡ places_of self.old }
         ensures rows { rows_of self.new ≡ rows_of self.old ++ word_in self.old word.now ∷ [] }
     {
-        self.columns.put_row(self.rows, self.places, word);
+        let word = self.front(word);
+        self.columns.put_row(self.rows, word);
         self.rows += 1;
     }
 
     // A row more, after the others.
+    #[tactic(auto, using(crate::proofs::Passing::row_means))]
     pub fn add_row(&mut self, row: &[u8]) -> Result<(), Refusal>
         ensures { Added row.now self.old result self.new }
     {

@@ -2,14 +2,13 @@
 ghost use Rattle.std.specs.Prelude.{◌≡◌, ◌≤◌, length, is_some, nat_le};
 ghost use Rattle.pauli.specs.Limits.{max_rows};
 ghost use Rattle.pauli.specs.Words.{syndrome};
-ghost use Rattle.pauli.specs.Text.{first};
+ghost use Rattle.pauli.specs.Text.{first, letters_of};
 ghost use Rattle.independence.specs.Pivots.{is_sum};
 ghost use Rattle.columns.specs.Masks.{set_of};
 ghost use Rattle.answers.specs.Syndromes.{bits_of};
 ghost use Rattle.code.specs.Codes.{places_of, rows_of};
-ghost use Rattle.code.specs.Lemmas.{RowLaws};
 ghost use Rattle.code.specs.Calls.{Told};
-ghost use Rattle.code.specs.Checks.{word_in, SpeltOr, PassedOr, Meant};
+ghost use Rattle.code.specs.Checks.{word_in, SpeltOr, PassedOr};
 
 use super::Code;
 use answers::{Refusal, Syndrome};
@@ -32,18 +31,24 @@ impl Code {
         if text.len() != self.places {
             return Err(Refusal::Length { length: text.len() });
         }
-        match read_word(text) {
-            Ok(word) => Ok(word),
-            Err(place) => Err(Refusal::NoLetter { place }),
-        }
+        Ok(read_word(text)?)
+    }
+
+    // The first letters of a table, as many as the code has places.
+    pub(super) fn front<'a>(&self, word: &'a Letters) -> &'a [u8]
+        ensures letters { letters_of result.now ≡ word_in self.now word.now }
+        ensures long { length result.now ≡ places_of self.now }
+    {
+        &word.numbers[..self.places]
     }
 
     // The set of rows that do not commute with a word.
+    #[tactic(auto, using(crate::proofs::Checking::odd_set, crate::proofs::Checking::odd_few))]
     fn odd_rows(&self, word: &Letters) -> u64
         ensures set { result ≡ set_of (syndrome (rows_of self.now) (word_in self.now word.now)) }
         ensures few { length (syndrome (rows_of self.now) (word_in self.now word.now)) ≤ max_rows }
     {
-        self.columns.clashes(self.places, word)
+        self.columns.clashes(self.front(word))
     }
 
     // The lowest row, from 1, that does not commute with a word.
@@ -53,30 +58,18 @@ impl Code {
         lowest(self.odd_rows(word))
     }
 
-    // Rows that add to a word, where it is a sum of rows.
-    fn summands(&self, word: &Letters) -> Option<u64>
-        requires { length (word_in self.now word.now) ≡ places_of self.now }
-        ensures { is_some result ≡ is_sum (rows_of self.now) (word_in self.now word.now) }
-    {
-        sum_of(
-            &self.columns.table[..self.places],
-            &word.numbers[..self.places],
-        )
-    }
-
     // Whether a word is a sum of the rows.
+    #[tactic(auto, using(crate::proofs::Checking::summed))]
     fn is_sum(&self, word: &Letters) -> bool
-        requires { length (word_in self.now word.now) ≡ places_of self.now }
         ensures { result ≡ is_sum (rows_of self.now) (word_in self.now word.now) }
     {
-        self.summands(word).is_some()
+        sum_of(&self.columns.table[..self.places], self.front(word)).is_some()
     }
 
-    // The letters of a row's text that can be added: the checks in their order, by what each tells of the refusal.
+    // The letters of a row's text that can be added: the checks in their order.
+    #[tactic(auto, using(crate::proofs::Passing::row_full, crate::proofs::Passing::row_worded, crate::proofs::Passing::row_clash, crate::proofs::Passing::row_sum, crate::proofs::Passing::row_passed))]
     pub(super) fn check_row(&self, row: &[u8]) -> Result<Letters, Refusal>
-        requires { RowLaws }
-        ensures cases { PassedOr self.now row.now result }
-        ensures means { Meant self.now row.now }
+        ensures { PassedOr self.now row.now result }
     {
         if self.is_full() {
             return Err(Refusal::Full { rows: MAX_ROWS });
@@ -92,6 +85,7 @@ impl Code {
     }
 
     // The syndrome of a word.
+    #[tactic(auto, using(crate::proofs::Checking::told_bits))]
     fn tell(&self, word: &Letters) -> Syndrome
         ensures { bits_of result ≡ syndrome (rows_of self.now) (word_in self.now word.now) }
     {
