@@ -4,7 +4,7 @@ ghost use Rattle.code.specs.Codes.{places_of, rows_of};
 ghost use Rattle.admit.specs.declared.session.Stage.TheVariants.{Places};
 ghost use Rattle.admit.specs.Replies.{BeginLine, RowLine, ErrorLine, Numbered, Line};
 
-use crate::reply::Reply;
+use crate::reply::{Fault, Reply};
 use code::Code;
 
 // What the next line is read as.
@@ -35,51 +35,41 @@ impl Session {
         }
     }
 
-    // Begins the code of so many places; without a code there is nothing more to do.
-    fn begin(&mut self, places: Option<usize>) -> Reply
-        ensures { BeginLine places self.old result self.new }
+    // Begins the code of the places that a line writes; without a code there is nothing more to do.
+    fn begin(&mut self, line: &[u8]) -> Result<Reply, Fault>
+        ensures { BeginLine line.now self.old result self.new }
     {
         self.stage = Stage::Ended;
-        let Some(places) = places else {
-            return Reply::NoNumber;
-        };
-        match self.code.begin(places) {
-            Ok(()) => {
-                self.stage = Stage::Rows;
-                Reply::Begun { places }
-            }
-            Err(refusal) => Reply::Refused { refusal },
-        }
+        let places = number(line).ok_or(Fault::NoNumber)?;
+        self.code.begin(places)?;
+        self.stage = Stage::Rows;
+        Ok(Reply::Begun { places })
     }
 
     // Adds the row of a line.
-    fn row(&mut self, line: &[u8]) -> Reply
+    fn row(&mut self, line: &[u8]) -> Result<Reply, Fault>
         ensures { RowLine line.now self.old result self.new }
     {
-        match self.code.add_row(line) {
-            Ok(()) => Reply::Taken {
-                row: self.code.rows(),
-            },
-            Err(refusal) => Reply::Refused { refusal },
-        }
+        self.code.add_row(line)?;
+        Ok(Reply::Taken {
+            row: self.code.rows(),
+        })
     }
 
     // The syndrome of a line's error.
-    fn error(&self, line: &[u8]) -> Reply
+    fn error(&self, line: &[u8]) -> Result<Reply, Fault>
         ensures { ErrorLine line.now self.now result }
     {
-        match self.code.syndrome(line) {
-            Ok(syndrome) => Reply::Told { syndrome },
-            Err(refusal) => Reply::Refused { refusal },
-        }
+        let syndrome = self.code.syndrome(line)?;
+        Ok(Reply::Told { syndrome })
     }
 
-    // Takes one line; an empty one ends the rows.
-    pub fn line(&mut self, line: &[u8]) -> Option<Reply>
+    // Takes one line; an empty one ends the rows. The stages are few and known, so they are the cases of a match.
+    pub fn line(&mut self, line: &[u8]) -> Option<Result<Reply, Fault>>
         ensures { Line line.now self.old result self.new }
     {
         match self.stage {
-            Stage::Places => Some(self.begin(number(line))),
+            Stage::Places => Some(self.begin(line)),
             Stage::Rows => {
                 if line.is_empty() {
                     self.stage = Stage::Errors;
@@ -97,8 +87,5 @@ impl Session {
 fn number(line: &[u8]) -> Option<usize>
     ensures { Numbered line.now result }
 {
-    match std::str::from_utf8(line) {
-        Ok(text) => text.parse::<usize>().ok(),
-        Err(_) => None,
-    }
+    std::str::from_utf8(line).ok()?.parse::<usize>().ok()
 }
