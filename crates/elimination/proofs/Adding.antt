@@ -1,21 +1,23 @@
 -- Sums of a table's rows, place by place. Assumes nothing.
-use Rattle.std.proofs.Common.{◌≡◌, ℕ, zero, suc, ◌+◌, ◌/◌, ◌^◌, ◌<◌, ◌≤◌, Bool, true, false, ◌↔◌, List, [], ◌∷◌, map, length, get_or, replicate, Some, None, sym, refl, ap, ◌∙◌, subst, ap₂, div-one, arith, below_more}
-use lib.ListN.{length-replicate}
+use Rattle.std.proofs.Common.{◌≡◌, ℕ, zero, suc, ◌+◌, ◌/◌, ◌^◌, ◌<◌, ◌≤◌, min, Bool, true, false, ◌↔◌, List, [], ◌∷◌, map, length, get_or, replicate, Some, None, Option, sym, refl, ap, ◌∙◌, subst, ap₂, div-one, arith, below_more}
+use lib.ListN.{length-replicate, length-map}
 use Rattle.pauli.specs.Limits.{max_rows}
 use Rattle.pauli.specs.declared.letter.Letter.{Letter}
 use Rattle.pauli.specs.declared.letter.Letter.TheVariants.{X, Z}
 use Rattle.pauli.specs.Letters.{letter, clash}
 use Rattle.pauli.specs.Words.{xor, add, select}
 use Rattle.pauli.specs.Laws.{chosen}
-use Rattle.pauli.proofs.WordLaws.{heads, tails}
+use Rattle.pauli.proofs.WordLaws.{heads, tails, length-select}
 use Rattle.columns.specs.Masks.{bit, bits}
-use Rattle.elimination.specs.Systems.{Meets, Holds, idle, LowestAt, Triangular, Took}
+use Rattle.elimination.specs.Systems.{Meets, Holds, idle, LowestAt, Triangular, Here, Asked}
 use Rattle.columns.specs.Columns.{told, row, rows_from, rows, hollow, Within}
 use Rattle.columns.specs.declared.column.Column.{Column}
-use Rattle.elimination.specs.Sums.{Solved}
+use Rattle.elimination.specs.Sums.{Solved, Gives, Stated}
 use Rattle.columns.proofs.Telling.{told-plus, told-clash, clash-told-X, clash-told-Z, shift}
+use Rattle.columns.proofs.Marking.{long_rows}
 use Rattle.columns.proofs.Masks.{bit-none, chosen_none, chosen-within}
-use Rattle.elimination.specs.declared.sums.Equation.{Equation}
+use Rattle.elimination.specs.declared.equation.Equation.{Equation}
+use Rattle.elimination.specs.declared.system.System.{System}
 
 -- the letter at the first place of a sum
 abbrev first : List Bool → ℕ → ℕ → Column → Letter
@@ -43,14 +45,6 @@ select-empty [] j (suc r) = refl
 select-empty (k ∷ ks) j zero = refl
 select-empty (true ∷ ks) j (suc r) = ap (λ w. add [] w) (select-empty ks (suc j) r)
 select-empty (false ∷ ks) j (suc r) = select-empty ks (suc j) r
-
--- the bits choose rows with the word's letter at the place
-abbrev Here : List Bool → Column → ℕ → Type 0
-Here ks c a = Meets ks c.x (clash (letter a) X) × Meets ks c.z (clash (letter a) Z)
-
--- at each of the first p places
-abbrev Gives : List Bool → List Column → List ℕ → ℕ → Type 0
-Gives ks columns word p = (q : ℕ) → q < p → Here ks (get_or columns q hollow) (get_or word q 0)
 
 whole : (ks : List Bool) (m : ℕ) → chosen ks (bits max_rows (m / 2 ^ 0)) ≡ chosen ks (bits max_rows m)
 whole ks m = ap (λ n. chosen ks (bits max_rows n)) (div-one m)
@@ -93,7 +87,6 @@ idle-lowest : (j : ℕ) → LowestAt j idle
 idle-lowest j = record { nothing = λ z. refl; own = λ n. absurd (n refl); below = λ i k. bit-none i }
 
 pub idle_triangular : Triangular (replicate max_rows idle)
-unfolding Triangular
 idle_triangular =
     record {
       size = length-replicate max_rows idle;
@@ -105,9 +98,9 @@ idle_holds ks j k = subst (λ (e : Equation). Meets ks e.mask e.odd) (sym (idle-
 
 -- One more place
 
-gives_more : (ks : List Bool) (columns : List Column) (word : List ℕ) (p : ℕ) → Gives ks columns word p → Here ks (get_or columns p hollow) (get_or word p 0)
+gives_more : (ks : List Bool) (columns : List Column) (word : List ℕ) (p : ℕ) → Gives ks columns word p → Here ks (get_or columns p hollow) (letter (get_or word p 0))
     → Gives ks columns word (p + 1)
-gives_more ks columns word p g h = below_more (λ q. Here ks (get_or columns q hollow) (get_or word q 0)) p g h
+gives_more ks columns word p g h = below_more (λ q. Here ks (get_or columns q hollow) (letter (get_or word q 0))) p g h
 
 gives_less : (ks : List Bool) (columns : List Column) (word : List ℕ) (p n : ℕ) → p ≤ n → Gives ks columns word n → Gives ks columns word p
 gives_less ks columns word p n l g q k = g q (omega arith)
@@ -122,42 +115,61 @@ pub says_none : (columns : List Column) (word : List ℕ) → Says (replicate ma
 unfolding Says
 says_none columns word ks = (λ h q k. absurd (omega arith), λ g. idle_holds ks)
 
--- a turn of the loop, and its ends
-pub record Adding (columns : List Column) (word : List ℕ) : Type 0 where
-  pub more : (s t u : List Equation) (p : ℕ) (a b : Bool) → Says s columns word p
-      → Took s (get_or columns p hollow).x a t true → a ≡ clash (letter (get_or word p 0)) X
-      → Took t (get_or columns p hollow).z b u true → b ≡ clash (letter (get_or word p 0)) Z → Says u columns word (p + 1)
-  pub stop_x : (s t : List Equation) (p : ℕ) (a : Bool) → Says s columns word p → p < length columns
-      → Took s (get_or columns p hollow).x a t false → a ≡ clash (letter (get_or word p 0)) X → Solved columns word None
-  pub stop_z : (s t u : List Equation) (p : ℕ) (a b : Bool) → Says s columns word p → p < length columns
-      → Took s (get_or columns p hollow).x a t true → a ≡ clash (letter (get_or word p 0)) X
-      → Took t (get_or columns p hollow).z b u false → b ≡ clash (letter (get_or word p 0)) Z → Solved columns word None
-  pub all : (s : List Equation) (p m : ℕ) → Says s columns word p → length columns ≤ p → Holds (bits max_rows m) s → Solved columns word (Some m)
+-- the place at p, as the loop reads it
+asked_at : (s t : List Equation) (columns : List Column) (word : List ℕ) (p : ℕ) (c : Column) (e : Letter) (r v : Bool)
+    → c ≡ get_or columns p hollow → e ≡ letter (get_or word p 0) → Asked s c e t r → r ≡ v → Asked s (get_or columns p hollow) (letter (get_or word p 0)) t v
+asked_at s t columns word p c e r v is at a o = rw (← is, ← at, ← o) a
 
-pub adding : (columns : List Column) (word : List ℕ) → length columns ≡ length word → Adding columns word
-unfolding Says Took
-adding columns word l =
-    record {
-      more = λ s t u p a b h one x two z ks. (
-        λ k.
-            let d = (two ks).0 k in
-            let c = (one ks).0 d.0 in
-            gives_more ks columns word p ((h ks).0 c.0) (c.1 ∙ x, d.1 ∙ z),
-        λ g.
-            let here = g p (omega arith) in
-            let k = (h ks).1 (gives_less ks columns word p (p + 1) (omega arith) g) in
-            (two ks).1 ((one ks).1 (k, here.0 ∙ sym x), here.1 ∙ sym z),
-      );
-      stop_x = λ s t p a h i one x ks e.
-          let g = sum_gives ks columns word l e in
-          one.against ks ((h ks).1 (gives_less ks columns word p (length columns) (omega arith) g)) ((g p i).0 ∙ sym x);
-      stop_z = λ s t u p a b h i one x two z ks e.
-          let g = sum_gives ks columns word l e in
-          two.against ks ((one ks).1 ((h ks).1 (gives_less ks columns word p (length columns) (omega arith) g), (g p i).0 ∙ sym x)) ((g p i).1 ∙ sym z);
-      all = λ s p m h i k.
-          let ks = bits max_rows m in
-          gives_sum ks columns word l (gives_less ks columns word (length columns) p i ((h ks).0 k));
-    }
+-- a place more was asked for
+pub says_more : (s t : List Equation) (columns : List Column) (word : List ℕ) (p : ℕ) (c : Column) (e : Letter) (r : Bool) → Says s columns word p
+    → c ≡ get_or columns p hollow → e ≡ letter (get_or word p 0) → Asked s c e t r → r ≡ true → Says t columns word (p + 1)
+unfolding Says Asked
+says_more s t columns word p c e r h is at a o =
+    let k : (ks : List Bool) → Holds ks t ↔ (Holds ks s × Here ks (get_or columns p hollow) (letter (get_or word p 0))) =
+    asked_at s t columns word p c e r true is at a o in
+    λ ks. (
+      λ m. let m = (k ks).0 m in gives_more ks columns word p ((h ks).0 m.0) m.1,
+      λ g. (k ks).1 ((h ks).1 (gives_less ks columns word p (p + 1) (omega arith) g), g p (omega arith)),
+    )
+
+-- a place contradicted those before it
+pub says_against : (s t : List Equation) (columns : List Column) (word : List ℕ) (p : ℕ) (c : Column) (e : Letter) (r : Bool) (found : Option System)
+    → Says s columns word p → p < length columns → p < length word
+    → c ≡ get_or columns p hollow → e ≡ letter (get_or word p 0) → Asked s c e t r → r ≡ false → found ≡ None → Stated columns word found
+unfolding Says Asked Stated
+says_against s t columns word p c e r found h i j is at a o n =
+    let k : (ks : List Bool) → Holds ks s → Here ks (get_or columns p hollow) (letter (get_or word p 0)) → ⊥ =
+    asked_at s t columns word p c e r false is at a o in
+    subst (λ (x : Option System). Stated columns word x) (sym n) (λ ks g.
+    k ks ((h ks).1 (gives_less ks columns word p (min (length columns) (length word)) (omega arith) g)) (g p (omega arith)))
+
+-- no place is left
+pub says_all : (s : System) (columns : List Column) (word : List ℕ) (p : ℕ) → Says s.equations columns word p → p ≡ min (length columns) (length word)
+    → Stated columns word (Some s)
+unfolding Says Stated
+says_all s columns word p h e = subst (λ (n : ℕ). Says s.equations columns word n) e h
+
+-- what the system is for
+pub solved_none : (columns : List Column) (word : List ℕ) (o : Option System) (found : Option ℕ) → length columns ≡ length word
+    → Stated columns word o → o ≡ None → found ≡ None → Solved columns word found
+unfolding Stated
+solved_none columns word o found l h e n =
+    let k : (ks : List Bool) → Gives ks columns word (min (length columns) (length word)) → ⊥ = subst (λ (x : Option System). Stated columns word x) e h in
+    subst (λ (x : Option ℕ). Solved columns word x) (sym n) (λ ks m.
+    k ks (gives_less ks columns word (min (length columns) (length word)) (length columns) (omega arith) (sum_gives ks columns word l m)))
+
+pub solved_some : (columns : List Column) (word : List ℕ) (s : System) (m : ℕ) → length columns ≡ length word
+    → Stated columns word (Some s) → Holds (bits max_rows m) s.equations → Solved columns word (Some m)
+unfolding Stated
+solved_some columns word s m l h k =
+    let ks = bits max_rows m in
+    gives_sum ks columns word l (gives_less ks columns word (length columns) (min (length columns) (length word)) (omega arith) ((h ks).0 k))
+
+-- a sum of rows is as long as the table
+pub sum_long : (ks : List Bool) (columns : List Column) (word : List ℕ) → select (length columns) ks (rows max_rows columns) ≡ map letter word
+    → length columns ≡ length word
+sum_long ks columns word e =
+    sym (length-select (length columns) ks (rows max_rows columns) (long_rows (length columns) max_rows columns refl)) ∙ (ap length e ∙ length-map word letter)
 
 -- rows past the masks add nothing
 pub rows-within : (r : ℕ) (ks : List Bool) (columns : List Column) → r ≤ max_rows → Within r columns

@@ -1,31 +1,41 @@
 -- A triangular system: an equation reduced by another, an equation put in its place, an unknown turned over. Assumes nothing.
-use Rattle.std.proofs.Common.{◌≡◌, ℕ, ◌+◌, ◌-◌, ◌*◌, ◌/◌, ◌%◌, ◌^◌, ◌<◌, ◌≤◌, Bool, true, false, not, eqb, ◌⊎◌, ◌↔◌, List, get_or, set, sym, refl, ap, ◌∙◌, subst, ap₂, inl, inr, eq-or-lt_of_le, arith, lit<, length-set, get_or-set_other, get_or-set_same}
+use Rattle.std.proofs.Common.{◌≡◌, ℕ, ◌+◌, ◌*◌, ◌%◌, ◌^◌, ◌<◌, ◌≤◌, Bool, true, false, not, ◌⊎◌, ◌↔◌, List, get_or, set, Decides, sym, refl, ap, ◌∙◌, subst, ap₂, inl, inr, eq-or-lt_of_le, arith, lit<, length-set, get_or-set_other, get_or-set_same}
 use mathlib.Core.Bool.{beq, false≢true}
 use native.Mathlib.Decide.{ℕ_discrete}
 use lib.Count.{ones}
-use lib.Bits.{bit_and, bit_xor, and_mask, xor_lt}
+use lib.Bits.{bit_and, bit_xor, xor_lt}
 use lib.Pow.{pow-lt}
+use Rattle.std.specs.Cmp.{booleans_Decides}
 use Rattle.std.proofs.lemmas.Nat.{one_shl}
 use Rattle.pauli.specs.Limits.{max_rows}
+use Rattle.pauli.specs.declared.letter.Letter.{Letter}
+use Rattle.pauli.specs.declared.letter.Letter.TheVariants.{X, Z}
+use Rattle.pauli.specs.Letters.{clash}
 use Rattle.pauli.specs.Words.{odd, xor}
 use Rattle.pauli.specs.Laws.{chosen}
 use Rattle.pauli.proofs.WordLaws.{xor-false}
 use Rattle.columns.specs.Masks.{bit, bits}
-use Rattle.elimination.specs.Systems.{Meets, Holds, idle, LowestAt, Triangular, Took}
-use Rattle.elimination.specs.declared.sums.Equation.{Equation}
+use Rattle.columns.specs.declared.column.Column.{Column}
+use Rattle.elimination.specs.Systems.{Meets, Holds, both, idle, LowestAt, Triangular, Took, Asked}
+use Rattle.elimination.specs.declared.equation.Equation.{Equation}
 use Rattle.columns.proofs.Masks.{bit-xor, bit-none, chosen-xor, chosen_sym, chosen_off, chosen_none, chosen_one, parity}
 
-differ_xor : (a b : Bool) → not (beq a b) ≡ xor a b
+-- two parities differ just where one of them is odd
+pub differ_xor : (a b : Bool) → not (beq a b) ≡ xor a b
 differ_xor true true = refl
 differ_xor true false = refl
 differ_xor false true = refl
 differ_xor false false = refl
 
+-- whether the unknowns meet an equation, by the number of unknowns in it that are chosen
+pub met_by : (m n : ℕ) (b : Bool) → m < 2 ^ max_rows → Decides (beq (odd (ones (bit_and m n))) b) (Meets (bits max_rows m) n b)
+met_by m n b l = let x = odd (ones (bit_and m n)) in subst (λ (y : Bool). Decides (beq x b) (y ≡ b)) (parity max_rows m n l) (booleans_Decides x b)
+
 -- an equation that is met, added to another, leaves what that says
-reduced : (ks : List Bool) (m n : ℕ) (a b : Bool) → Meets ks n b → Meets ks m a ↔ Meets ks (bit_xor m n) (not (beq a b))
+reduced : (ks : List Bool) (m n : ℕ) (a b : Bool) → Meets ks n b → Meets ks m a ↔ Meets ks (bit_xor m n) (xor a b)
 reduced ks m n a b h = (
-  λ e. chosen-xor max_rows ks m n ∙ (ap₂ xor e h ∙ sym (differ_xor a b)),
-  λ e. back (chosen ks (bits max_rows m)) a b (ap (λ x. xor (chosen ks (bits max_rows m)) x) (sym h) ∙ (sym (chosen-xor max_rows ks m n) ∙ (e ∙ differ_xor a b))),
+  λ e. chosen-xor max_rows ks m n ∙ ap₂ xor e h,
+  λ e. back (chosen ks (bits max_rows m)) a b (ap (λ x. xor (chosen ks (bits max_rows m)) x) (sym h) ∙ (sym (chosen-xor max_rows ks m n) ∙ e)),
 )
   where
     back : (x y z : Bool) → xor x z ≡ xor y z → x ≡ y
@@ -62,7 +72,6 @@ idle_met ks j e l z = ap (λ m. chosen ks (bits max_rows m)) z ∙ (chosen_none 
 -- an equation in a place where none stood
 placed : (es : List Equation) (j : ℕ) (e : Equation) → Triangular es → j < max_rows → ((i : ℕ) → i < j → bit i e.mask ≡ false) → bit j e.mask ≡ true
     → Triangular (set es j e)
-unfolding Triangular
 placed es j e t l below own = record { size = length-set es j e ∙ t.size; lowest = λ i k. go i k (ℕ_discrete i j) }
   where
     new : LowestAt j e
@@ -76,7 +85,6 @@ placed es j e t l below own = record { size = length-set es j e ∙ t.size; lowe
 
 placed_holds : (es : List Equation) (j : ℕ) (e : Equation) → Triangular es → j < max_rows → (get_or es j idle).mask ≡ 0 → (ks : List Bool)
     → Holds ks (set es j e) ↔ (Holds ks es × Meets ks e.mask e.odd)
-unfolding Triangular
 placed_holds es j e t l z ks = (λ h. (λ i k. old h i k (ℕ_discrete i j), here h), λ p i k. all p i k (ℕ_discrete i j))
   where
     same : get_or (set es j e) j idle ≡ e
@@ -105,76 +113,81 @@ flipped j m n l =
 
 -- The loop that takes an equation in
 
--- what is left of an equation at j: it has no unknown below j, and under the system, which is as it was, says what the equation says
-pub Left : List Equation → List Equation → ℕ → Bool → ℕ → ℕ → Bool → Type 0
-Left before es m b j n a =
+-- what is left of an equation at j: it has no unknown below j, and under the system it says what the equation says
+pub Left : Equation → List Equation → ℕ → Equation → Type 0
+Left e es j rest =
     record {
-      same : es ≡ before;
       triangular : Triangular es;
-      below : (i : ℕ) → i < j → bit i n ≡ false;
-      says : (ks : List Bool) → Holds ks es → Meets ks m b ↔ Meets ks n a;
+      below : (i : ℕ) → i < j → bit i rest.mask ≡ false;
+      says : (ks : List Bool) → Holds ks es → Meets ks e.mask e.odd ↔ Meets ks rest.mask rest.odd;
     }
 
--- a turn of the loop, and its ends
-pub record Putting (before : List Equation) (m : ℕ) (b : Bool) : Type 0 where
-  pub skipped : (es : List Equation) (j n : ℕ) (a : Bool) → Left before es m b j n a → bit_and (n / 2 ^ j) 1 ≡ 0 → Left before es m b (j + 1) n a
-  pub added : (es : List Equation) (j n : ℕ) (a : Bool) → Left before es m b j n a → j < max_rows → (bit_and (n / 2 ^ j) 1 ≡ 0 → ⊥) → ((get_or es j idle).mask ≡ 0 → ⊥)
-      → Left before es m b (j + 1) (bit_xor n (get_or es j idle).mask) (not (beq a (get_or es j idle).odd))
-  pub put : (es : List Equation) (j n : ℕ) (a : Bool) → Left before es m b j n a → j < max_rows → (bit_and (n / 2 ^ j) 1 ≡ 0 → ⊥) → (get_or es j idle).mask ≡ 0
-      → Triangular (set es j (record { mask = n; odd = a })) × Took before m b (set es j (record { mask = n; odd = a })) true
-  pub none : (es : List Equation) (j n : ℕ) (a : Bool) → Left before es m b j n a → max_rows ≤ j → Triangular es × Took before m b es (not a)
-
-bit_set : (j n : ℕ) → (bit_and (n / 2 ^ j) 1 ≡ 0 → ⊥) → bit j n ≡ true
-bit_set j n h = ap (λ r. eqb r 1) (let o : n / 2 ^ j % 2 ≡ 1 = omega (arith, nope) in o)
-  where
-    nope : n / 2 ^ j % 2 ≡ 0 → ⊥
-    nope e = h (and_mask (n / 2 ^ j) 1 ∙ e)
-
-bit_unset : (j n : ℕ) → bit_and (n / 2 ^ j) 1 ≡ 0 → bit j n ≡ false
-bit_unset j n h = ap (λ r. eqb r 1) (sym (and_mask (n / 2 ^ j) 1) ∙ h)
-
--- an equation with no unknown contradicts, or says nothing
-empty_took : (es : List Equation) (m n : ℕ) (b a : Bool) → ((ks : List Bool) → chosen ks (bits max_rows n) ≡ false)
-    → ((ks : List Bool) → Holds ks es → Meets ks m b ↔ Meets ks n a) → Took es m b es (not a)
-unfolding Took
-empty_took es m n b true off says = record { kept = refl; against = λ ks x y. false≢true (sym (off ks) ∙ (says ks x).0 y) }
-empty_took es m n b false off says = λ ks. (λ x. (x, (says ks x).1 (off ks)), λ x. x.0)
-
-pub putting : (before : List Equation) (m : ℕ) (b : Bool) → Putting before m b
-unfolding Left Triangular Took
-putting before m b =
-    record {
-      skipped = λ es j n a h u.
-          record { same = h.same; triangular = h.triangular; below = below_next j n h.below (bit_unset j n u); says = h.says };
-      added = λ es j n a h l u z.
-          let e = get_or es j idle in
-          let k = h.triangular.lowest j l in
-          record {
-            same = h.same;
-            triangular = h.triangular;
-            below = reduced_below j n e.mask h.below k.below (bit_set j n u) (k.own z);
-            says = λ ks hs.
-                let p = h.says ks hs in
-                let q = reduced ks n e.mask a e.odd (hs j l) in
-                (λ x. q.0 (p.0 x), λ x. p.1 (q.1 x));
-          };
-      put = λ es j n a h l u z.
-          let e : Equation = record { mask = n; odd = a } in (
-            placed es j e h.triangular l h.below (bit_set j n u),
-            subst (λ (xs : List Equation). Took xs m b (set es j e) true) h.same (λ ks.
-                let p = placed_holds es j e h.triangular l z ks in
-                (λ x. let q = p.0 x in (q.0, (h.says ks q.0).1 q.1), λ x. p.1 (x.0, (h.says ks x.0).0 x.1))),
-          );
-      none = λ es j n a h l. (
-        h.triangular,
-        subst (λ (xs : List Equation). Took xs m b es (not a)) h.same
-            (empty_took es m n b a (λ ks. chosen_off max_rows ks n (λ i k. h.below i (omega arith))) h.says),
-      );
-    }
-
-pub left_all : (es : List Equation) (m : ℕ) (b : Bool) → Triangular es → Left es es m b 0 m b
+pub left_all : (es : List Equation) (e : Equation) → Triangular es → Left e es 0 e
 unfolding Left
-left_all es m b t = record { same = refl; triangular = t; below = λ i k. absurd (omega arith); says = λ ks h. (λ x. x, λ x. x) }
+left_all es e t = record { triangular = t; below = λ i k. absurd (omega arith); says = λ ks h. (λ x. x, λ x. x) }
+
+pub left_skipped : (es : List Equation) (e rest : Equation) (j : ℕ) → Left e es j rest → bit j rest.mask ≡ false → Left e es (j + 1) rest
+unfolding Left
+left_skipped es e rest j h u = record { triangular = h.triangular; below = below_next j rest.mask h.below u; says = h.says }
+
+pub left_added : (es : List Equation) (e rest : Equation) (j : ℕ) → Left e es j rest → j < max_rows → bit j rest.mask ≡ true
+    → ((get_or es j idle).mask ≡ 0 → ⊥) → Left e es (j + 1) (both rest (get_or es j idle))
+unfolding Left
+left_added es e rest j h l u z =
+    let known = get_or es j idle in
+    let k = h.triangular.lowest j l in
+    record {
+      triangular = h.triangular;
+      below = reduced_below j rest.mask known.mask h.below k.below u (k.own z);
+      says = λ ks hs.
+          let p = h.says ks hs in
+          let q = reduced ks rest.mask known.mask rest.odd known.odd (hs j l) in
+          (λ x. q.0 (p.0 x), λ x. p.1 (q.1 x));
+    }
+
+pub left_placed : (es : List Equation) (e rest : Equation) (j : ℕ) → Left e es j rest → j < max_rows → bit j rest.mask ≡ true
+    → Triangular (set es j rest)
+unfolding Left
+left_placed es e rest j h l u = placed es j rest h.triangular l h.below u
+
+pub left_took : (es : List Equation) (e rest : Equation) (j : ℕ) → Left e es j rest → j < max_rows
+    → (get_or es j idle).mask ≡ 0 → Took es e.mask e.odd (set es j rest) true
+unfolding Left Took
+left_took es e rest j h l z ks =
+    let p = placed_holds es j rest h.triangular l z ks in
+    (λ x. let q = p.0 x in (q.0, (h.says ks q.0).1 q.1), λ x. p.1 (x.0, (h.says ks x.0).0 x.1))
+
+-- what is left has no unknown
+left_off : (es : List Equation) (e rest : Equation) (j : ℕ) → Left e es j rest → max_rows ≤ j → (ks : List Bool) → chosen ks (bits max_rows rest.mask) ≡ false
+unfolding Left
+left_off es e rest j h l ks = chosen_off max_rows ks rest.mask (λ i k. h.below i (omega arith))
+
+pub left_against : (es : List Equation) (e rest : Equation) (j : ℕ) → Left e es j rest → max_rows ≤ j → rest.odd ≡ true → Took es e.mask e.odd es false
+unfolding Left Took
+left_against es e rest j h l o =
+    record { kept = refl; against = λ ks x y. false≢true (sym (left_off es e rest j h l ks) ∙ ((h.says ks x).0 y ∙ o)) }
+
+pub left_said : (es : List Equation) (e rest : Equation) (j : ℕ) → Left e es j rest → max_rows ≤ j → rest.odd ≡ false → Took es e.mask e.odd es true
+unfolding Left Took
+left_said es e rest j h l o ks = (λ x. (x, (h.says ks x).1 (left_off es e rest j h l ks ∙ sym o)), λ x. x.0)
+
+-- A place's two equations
+
+pub asked_x : (s t : List Equation) (c : Column) (e : Letter) (a r v : Bool) → a ≡ clash e X → Took s c.x a t r → r ≡ false → v ≡ false → Asked s c e t v
+unfolding Took Asked
+asked_x s t c e a true v x h o w = absurd (false≢true (sym o))
+asked_x s t c e a false true x h o w = absurd (false≢true (sym w))
+asked_x s t c e a false false x h o w = λ ks k m. h.against ks k (m.0 ∙ sym x)
+
+pub asked_z : (s t u : List Equation) (c : Column) (e : Letter) (a b r v : Bool) → a ≡ clash e X → b ≡ clash e Z
+    → Took s c.x a t r → r ≡ true → Took t c.z b u v → Asked s c e u v
+unfolding Took Asked
+asked_z s t u c e a b false v x z h o k = absurd (false≢true o)
+asked_z s t u c e a b true true x z h o k = λ ks. (
+  λ m. let q = (k ks).0 m in let p = (h ks).0 q.0 in (p.0, (p.1 ∙ x, q.1 ∙ z)),
+  λ m. (k ks).1 ((h ks).1 (m.0, m.1.0 ∙ sym x), m.1.1 ∙ sym z),
+)
+asked_z s t u c e a b true false x z h o k = λ ks m n. k.against ks ((h ks).1 (m, n.0 ∙ sym x)) (n.1 ∙ sym z)
 
 -- The loop that solves the system
 
@@ -188,29 +201,23 @@ From es m j =
       met : (i : ℕ) → j ≤ i → i < max_rows → Meets (bits max_rows m) (get_or es i idle).mask (get_or es i idle).odd;
     }
 
--- a turn of the loop, and its end
-pub record Solving (es : List Equation) : Type 0 where
-  pub passed : (m j : ℕ) → From es m j → 0 < j → (get_or es (j - 1) idle).mask ≡ 0 → From es m (j - 1)
-  pub mended : (m j : ℕ) → From es m j → 0 < j → ((get_or es (j - 1) idle).mask ≡ 0 → ⊥)
-      → not (beq (odd (ones (bit_and m (get_or es (j - 1) idle).mask))) (get_or es (j - 1) idle).odd) ≡ true
-      → From es (bit_xor m ((1 * 2 ^ (j - 1)) % 2 ^ max_rows)) (j - 1)
-  pub right : (m j : ℕ) → From es m j → 0 < j
-      → not (beq (odd (ones (bit_and m (get_or es (j - 1) idle).mask))) (get_or es (j - 1) idle).odd) ≡ false → From es m (j - 1)
-  pub all : (m j : ℕ) → From es m j → j ≤ 0 → Holds (bits max_rows m) es
+pub from_none : (es : List Equation) → Triangular es → From es 0 max_rows
+unfolding From
+from_none es t = record { triangular = t; within = omega arith; fits = lit< tt; met = λ i l k. absurd (omega arith) }
 
 -- one more, which is met
-from_more : (es : List Equation) (m j : ℕ) → From es m j → 0 < j → Meets (bits max_rows m) (get_or es (j - 1) idle).mask (get_or es (j - 1) idle).odd → From es m (j - 1)
+pub from_met : (es : List Equation) (m j : ℕ) → From es m (j + 1) → Meets (bits max_rows m) (get_or es j idle).mask (get_or es j idle).odd → From es m j
 unfolding From
-from_more es m j f p h =
+from_met es m j f h =
     record { triangular = f.triangular; within = omega arith; fits = f.fits; met = λ i l k. go i k (eq-or-lt_of_le l) }
   where
-    go : (i : ℕ) → i < max_rows → (j - 1 ≡ i) ⊎ (j - 1 < i) → Meets (bits max_rows m) (get_or es i idle).mask (get_or es i idle).odd
+    go : (i : ℕ) → i < max_rows → (j ≡ i) ⊎ (j < i) → Meets (bits max_rows m) (get_or es i idle).mask (get_or es i idle).odd
     go i k (inl e) = subst (λ (n : ℕ). Meets (bits max_rows m) (get_or es n idle).mask (get_or es n idle).odd) e h
     go i k (inr q) = f.met i (omega arith) k
 
 -- an unknown below them changes nothing for them
 from_flipped : (es : List Equation) (m j k : ℕ) → From es m k → j < k → From es (bit_xor m (2 ^ j)) k
-unfolding From Triangular
+unfolding From
 from_flipped es m j k f l =
     record {
       triangular = f.triangular;
@@ -222,39 +229,27 @@ from_flipped es m j k f l =
           ∙ (ap (λ y. xor x y) ((f.triangular.lowest i q).below j (omega arith)) ∙ (xor-false x ∙ f.met i p q));
     }
 
-differ : (a b : Bool) → not (beq a b) ≡ true → xor a true ≡ b
-differ true true h = h
-differ true false h = refl
-differ false true h = refl
-differ false false h = sym h
+other : (a b : Bool) → (a ≡ b → ⊥) → xor a true ≡ b
+other true true h = absurd (h refl)
+other true false h = refl
+other false true h = refl
+other false false h = absurd (h refl)
 
-alike : (a b : Bool) → not (beq a b) ≡ false → a ≡ b
-alike true true h = refl
-alike true false h = h
-alike false true h = sym h
-alike false false h = refl
-
-pub solving : (es : List Equation) → Solving es
-unfolding From Triangular
-solving es =
-    record {
-      passed = λ m j f p z.
-          from_more es m j f p (idle_met (bits max_rows m) (j - 1) (get_or es (j - 1) idle) (f.triangular.lowest (j - 1) (omega arith)) z);
-      mended = λ m j f p z d.
-          let e = get_or es (j - 1) idle in
-          let x = chosen (bits max_rows m) (bits max_rows e.mask) in
-          let w : j - 1 < max_rows = omega arith in
-          subst (λ (n : ℕ). From es (bit_xor m n) (j - 1)) (sym (one_shl (j - 1) max_rows w))
-          (from_more es (bit_xor m (2 ^ (j - 1))) j (from_flipped es m (j - 1) j f (omega arith)) p
-          (flipped (j - 1) m e.mask w
-          ∙ (ap (λ b. xor x b) ((f.triangular.lowest (j - 1) w).own z)
-          ∙ differ x e.odd (ap (λ b. not (beq b e.odd)) (sym (parity max_rows m e.mask f.fits)) ∙ d))));
-      right = λ m j f p d.
-          let e = get_or es (j - 1) idle in
-          from_more es m j f p (sym (parity max_rows m e.mask f.fits) ∙ alike (odd (ones (bit_and m e.mask))) e.odd d);
-      all = λ m j f l i k. f.met i (omega arith) k;
-    }
-
-pub from_none : (es : List Equation) → Triangular es → From es 0 max_rows
+-- one more, which was not met, and is by its lowest unknown turned over
+pub from_mended : (es : List Equation) (m j : ℕ) → From es m (j + 1) → (Meets (bits max_rows m) (get_or es j idle).mask (get_or es j idle).odd → ⊥)
+    → From es (bit_xor m ((1 * 2 ^ j) % 2 ^ max_rows)) j
 unfolding From
-from_none es t = record { triangular = t; within = omega arith; fits = lit< tt; met = λ i l k. absurd (omega arith) }
+from_mended es m j f d =
+    let e = get_or es j idle in
+    let x = chosen (bits max_rows m) (bits max_rows e.mask) in
+    let w : j < max_rows = let k = f.within in omega arith in
+    let k = f.triangular.lowest j w in
+    subst (λ (n : ℕ). From es (bit_xor m n) j) (sym (one_shl j max_rows w))
+    (from_met es (bit_xor m (2 ^ j)) j (from_flipped es m j (j + 1) f (omega arith))
+    (flipped j m e.mask w
+    ∙ (ap (λ b. xor x b) (k.own (λ z. d (idle_met (bits max_rows m) j e k z)))
+    ∙ other x e.odd d)))
+
+pub from_all : (es : List Equation) (m : ℕ) → From es m 0 → Holds (bits max_rows m) es
+unfolding From
+from_all es m f i k = f.met i (omega arith) k
