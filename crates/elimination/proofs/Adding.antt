@@ -128,7 +128,7 @@ says_more s t columns word p c e r h is at a o =
     let k : (ks : List Bool) → Holds ks t ↔ (Holds ks s × Here ks (get_or columns p hollow) (letter (get_or word p 0))) =
     asked_at s t columns word p c e r true is at a o in
     λ ks. (
-      λ m. let m = (k ks).0 m in gives_more ks columns word p ((h ks).0 m.0) m.1,
+      λ m. let n = (k ks).0 m in gives_more ks columns word p ((h ks).0 n.0) n.1,
       λ g. (k ks).1 ((h ks).1 (gives_less ks columns word p (p + 1) (omega arith) g), g p (omega arith)),
     )
 
