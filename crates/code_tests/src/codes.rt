@@ -120,39 +120,32 @@ fn equal_codes_have_the_same_rows_in_the_same_order(rt: HostRuntime) -> Result<(
 
 // ---- refusals, with number and place
 
-// The number and place of the refusal of a row, after which the code is as before.
-fn refused(rt: &impl Abort, code: &mut Code, row: &[u8]) -> Result<(u8, usize), Fail> {
+// The number and place of the refusal that a call answers, after which the code is as before.
+fn refused<F: FnOnce(&mut Code) -> Result<(), Refusal>>(
+    rt: &impl Abort,
+    code: &mut Code,
+    call: F,
+) -> Result<(u8, usize), Fail> {
     let before = *code;
-    match code.add_row(row) {
-        Ok(()) => Err(Fail::new("the row was taken")),
-        Err(refusal) => {
-            assert!(rt; *code == before);
-            Ok((refusal.number(), refusal.place()))
-        }
-    }
-}
-
-// The same for a number of places.
-fn no_code(rt: &impl Abort, code: &mut Code, places: usize) -> Result<(u8, usize), Fail> {
-    let before = *code;
-    match code.begin(places) {
-        Ok(()) => Err(Fail::new("the code was begun")),
-        Err(refusal) => {
-            assert!(rt; *code == before);
-            Ok((refusal.number(), refusal.place()))
-        }
-    }
+    let Err(refusal) = call(code) else {
+        return Err(Fail::new("the call was accepted"));
+    };
+    assert!(rt; *code == before);
+    Ok((refusal.number(), refusal.place()))
 }
 
 #[test]
 fn no_code_has_no_places_or_too_many(rt: HostRuntime) -> Result<(), Fail> {
     let mut code = five()?;
-    assert_eq!(rt; no_code(&rt, &mut code, 0)?, (1, 0));
+    assert_eq!(rt; refused(&rt, &mut code, |c| c.begin(0))?, (1, 0));
     assert_eq!(rt;
-        no_code(&rt, &mut code, MAX_PLACES + 1)?,
+        refused(&rt, &mut code, |c| c.begin(MAX_PLACES + 1))?,
         (1, MAX_PLACES + 1)
     );
-    assert_eq!(rt; no_code(&rt, &mut code, usize::MAX)?, (1, usize::MAX));
+    assert_eq!(rt;
+        refused(&rt, &mut code, |c| c.begin(usize::MAX))?,
+        (1, usize::MAX)
+    );
     code.begin(1)?;
     code.begin(MAX_PLACES)?;
     assert_eq!(rt; code.places(), MAX_PLACES);
@@ -190,7 +183,10 @@ const REFUSED: [(&[u8], u8, usize); 18] = [
 fn the_five_place_code_refuses_what_it_should(rt: HostRuntime) -> Result<(), Fail> {
     let mut code = five()?;
     for (row, number, place) in REFUSED {
-        assert_eq!(rt; refused(&rt, &mut code, row)?, (number, place));
+        assert_eq!(rt;
+            refused(&rt, &mut code, |c| c.add_row(row))?,
+            (number, place)
+        );
     }
     code.add_row(b"IIIIX")?;
     assert_eq!(rt; code.rows(), 5);
@@ -199,7 +195,10 @@ fn the_five_place_code_refuses_what_it_should(rt: HostRuntime) -> Result<(), Fai
 
 #[test]
 fn the_first_row_is_not_blank(rt: HostRuntime) -> Result<(), Fail> {
-    assert_eq!(rt; refused(&rt, &mut Code::bare(), b"I")?, (6, 1));
+    assert_eq!(rt;
+        refused(&rt, &mut Code::bare(), |c| c.add_row(b"I"))?,
+        (6, 1)
+    );
     Ok(())
 }
 
@@ -213,10 +212,10 @@ fn a_code_with_as_many_rows_as_places_takes_no_more(rt: HostRuntime) -> Result<(
     let mut code = built(2, &[b"XX", b"ZZ"])?;
     for a in 0..4u8 {
         for b in 0..4u8 {
-            match code.add_row(&[letter_byte(a), letter_byte(b)]) {
-                Ok(()) => return Err(Fail::new("a row more")),
-                Err(refusal) => assert!(rt; clash_or_sum(refusal)),
-            }
+            let Err(refusal) = code.add_row(&[letter_byte(a), letter_byte(b)]) else {
+                return Err(Fail::new("a row more"));
+            };
+            assert!(rt; clash_or_sum(refusal));
         }
     }
     assert_eq!(rt; code.rows(), 2);
@@ -226,17 +225,15 @@ fn a_code_with_as_many_rows_as_places_takes_no_more(rt: HostRuntime) -> Result<(
 #[test]
 fn an_error_is_a_word_of_the_code(rt: HostRuntime) -> Result<(), Fail> {
     let code = five()?;
-    match code.syndrome(b"XXXXXX") {
-        Ok(_) => return Err(Fail::new("too long")),
-        Err(refusal) => assert_eq!(rt; (refusal.number(), refusal.place()), (3, 6)),
-    }
-    match code.syndrome(&[b'X', 0x80, b'X', b'?', b'X']) {
-        Ok(_) => Err(Fail::new("no letters")),
-        Err(refusal) => {
-            assert_eq!(rt; (refusal.number(), refusal.place()), (4, 2));
-            Ok(())
-        },
-    }
+    let Err(refusal) = code.syndrome(b"XXXXXX") else {
+        return Err(Fail::new("too long"));
+    };
+    assert_eq!(rt; (refusal.number(), refusal.place()), (3, 6));
+    let Err(refusal) = code.syndrome(&[b'X', 0x80, b'X', b'?', b'X']) else {
+        return Err(Fail::new("no letters"));
+    };
+    assert_eq!(rt; (refusal.number(), refusal.place()), (4, 2));
+    Ok(())
 }
 
 // ---- the most places and rows
@@ -244,8 +241,8 @@ fn an_error_is_a_word_of_the_code(rt: HostRuntime) -> Result<(), Fail> {
 // The text of a word that has one letter.
 fn single(index: usize, letter: u8) -> [u8; MAX_PLACES] {
     let mut text = [b'I'; MAX_PLACES];
-    if index < MAX_PLACES {
-        text[index] = letter;
+    if let Some(byte) = text.get_mut(index) {
+        *byte = letter;
     }
     text
 }
@@ -265,12 +262,18 @@ fn a_full_code_refuses_every_row(rt: HostRuntime) -> Result<(), Fail> {
     let mut code = largest()?;
     assert_eq!(rt; code.rows(), MAX_ROWS);
     assert_eq!(rt;
-        refused(&rt, &mut code, &single(MAX_PLACES - 1, b'X'))?,
+        refused(&rt, &mut code, |c| c.add_row(&single(MAX_PLACES - 1, b'X')))?,
         (2, MAX_ROWS)
     );
-    assert_eq!(rt; refused(&rt, &mut code, &single(0, b'Z'))?, (2, MAX_ROWS));
-    assert_eq!(rt; refused(&rt, &mut code, b"")?, (2, MAX_ROWS));
-    assert_eq!(rt; refused(&rt, &mut code, &[0xff; 3])?, (2, MAX_ROWS));
+    assert_eq!(rt;
+        refused(&rt, &mut code, |c| c.add_row(&single(0, b'Z')))?,
+        (2, MAX_ROWS)
+    );
+    assert_eq!(rt; refused(&rt, &mut code, |c| c.add_row(b""))?, (2, MAX_ROWS));
+    assert_eq!(rt;
+        refused(&rt, &mut code, |c| c.add_row(&[0xff; 3]))?,
+        (2, MAX_ROWS)
+    );
     Ok(())
 }
 
@@ -294,15 +297,15 @@ fn the_last_place_counts(rt: HostRuntime) -> Result<(), Fail> {
     code.add_row(&single(MAX_PLACES - 1, b'Y'))?;
     assert_eq!(rt; code.letter_at(0, MAX_PLACES - 1), 2);
     assert_eq!(rt;
-        refused(&rt, &mut code, &single(MAX_PLACES - 1, b'Z'))?,
+        refused(&rt, &mut code, |c| c.add_row(&single(MAX_PLACES - 1, b'Z')))?,
         (5, 1)
     );
     assert_eq!(rt;
-        refused(&rt, &mut code, &single(MAX_PLACES - 1, b'Y'))?,
+        refused(&rt, &mut code, |c| c.add_row(&single(MAX_PLACES - 1, b'Y')))?,
         (6, 2)
     );
     assert_eq!(rt;
-        refused(&rt, &mut code, &single(MAX_PLACES - 1, b'y'))?,
+        refused(&rt, &mut code, |c| c.add_row(&single(MAX_PLACES - 1, b'y')))?,
         (4, MAX_PLACES)
     );
     code.add_row(&single(MAX_PLACES - 2, b'Z'))?;

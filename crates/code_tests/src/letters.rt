@@ -35,28 +35,25 @@ fn x_and_y_add_to_z(rt: HostRuntime) {
     }
 }
 
-// The place at which a text is no word, or 0.
-fn fault(text: &[u8]) -> usize {
-    match read_word(text) {
-        Ok(_) => 0,
-        Err(place) => place,
-    }
+// The place at which a text is no word, if it is none.
+fn fault(text: &[u8]) -> Option<usize> {
+    read_word(text).err().map(|e| e.place)
 }
 
 #[test]
 fn words_are_bytes_and_not_text(rt: HostRuntime) {
-    assert_eq!(rt; fault(b"IXYZ"), 0);
-    assert_eq!(rt; fault(b""), 0);
-    assert_eq!(rt; fault(b"IXyZ"), 3);
-    assert_eq!(rt; fault(&[b'I', 0xc3, 0x89, b'I', b'I']), 2);
-    assert_eq!(rt; fault(&[b'I', b'I', 0xff]), 3);
-    assert_eq!(rt; fault(&[0]), 1);
+    assert_eq!(rt; fault(b"IXYZ"), None);
+    assert_eq!(rt; fault(b""), None);
+    assert_eq!(rt; fault(b"IXyZ"), Some(3));
+    assert_eq!(rt; fault(&[b'I', 0xc3, 0x89, b'I', b'I']), Some(2));
+    assert_eq!(rt; fault(&[b'I', b'I', 0xff]), Some(3));
+    assert_eq!(rt; fault(&[0]), Some(1));
 }
 
 #[test]
 fn a_word_may_be_as_long_as_the_limit(rt: HostRuntime) {
-    assert_eq!(rt; fault(&[b'Y'; MAX_PLACES]), 0);
-    assert_eq!(rt; fault(&[b'Y'; 300]), MAX_PLACES + 1);
+    assert_eq!(rt; fault(&[b'Y'; MAX_PLACES]), None);
+    assert_eq!(rt; fault(&[b'Y'; 300]), Some(MAX_PLACES + 1));
 }
 
 #[test]

@@ -45,7 +45,7 @@ all_written ns output front room i r e h =
     let l : length (take room output) ≡ room = length-take-le room output (omega arith) in
     let none : drop i (take room output) ≡ [] = drop_all i (take room output) (omega arith) in
     let text : front ≡ text_of (take room ns) =
-        h ∙ ap (λ ys. text_of (take i ns) ++ ys) none ∙ append-nil (text_of (take i ns)) ∙ ap (λ n. text_of (take n ns)) (e ∙ l) in
+    h ∙ ap (λ ys. text_of (take i ns) ++ ys) none ∙ append-nil (text_of (take i ns)) ∙ ap (λ n. text_of (take n ns)) (e ∙ l) in
     ap (λ ys. ys ++ drop room output) text ∙ ap (λ n. text_of (take n ns) ++ drop n output) r
 
 -- ---- what was written reads back

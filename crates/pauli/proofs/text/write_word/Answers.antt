@@ -12,5 +12,5 @@ returns c =
     let output = c.args.output.now in
     let room = c.min-room.result in
     let bytes : c.loop-i.byte-items ++ drop room output ≡ written numbers output =
-        all_written numbers output c.loop-i.byte-items room c.loop-i.i (omega arith) (omega arith) c.loop-i.invariant.0 in
+    all_written numbers output c.loop-i.byte-items room c.loop-i.i (omega arith) (omega arith) c.loop-i.invariant.0 in
     record { bytes = bytes; back = written_back numbers output (c.loop-i.byte-items ++ drop room output) bytes }
