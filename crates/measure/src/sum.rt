@@ -4,7 +4,7 @@ ghost use Rattle.std.proofs.Common.{rules};
 
 use super::scale::Measure;
 
-#[derive(Clone, Copy, PartialEq, Eq, Debug)]
+#[derive(Clone, Copy, PartialEq, Eq, PartialOrd, Ord, Debug)]
 pub struct Sum(pub u32);
 
 impl Measure for Sum {
@@ -21,6 +21,6 @@ impl Measure for Sum {
     }
 
     fn at_most(self, other: Sum) -> bool {
-        self.0 <= other.0
+        self <= other
     }
 }

@@ -4,7 +4,7 @@ ghost use Rattle.std.proofs.Common.{rules};
 
 use super::scale::Measure;
 
-#[derive(Clone, Copy, PartialEq, Eq, Debug)]
+#[derive(Clone, Copy, PartialEq, Eq, PartialOrd, Ord, Debug)]
 pub struct Worst(pub u32);
 
 impl Measure for Worst {
@@ -17,10 +17,10 @@ impl Measure for Worst {
     }
 
     fn join(self, other: Worst) -> Worst {
-        Worst(self.0.max(other.0))
+        self.max(other)
     }
 
     fn at_most(self, other: Worst) -> bool {
-        self.0 <= other.0
+        self <= other
     }
 }
