@@ -1,6 +1,7 @@
 // A channel of four values, the same at every place that a word may have.
 ghost use Rattle.std.specs.Prelude.{◌≡◌};
-ghost use Rattle.channel.specs.Channels.{flat, flat_few};
+ghost use Rattle.channel.specs.Channels.{flat};
+ghost use Rattle.std.proofs.Common.{rules};
 
 use super::prices::Channel;
 use measure::Measure;
@@ -25,7 +26,7 @@ impl<M: Measure> Channel for Flat<M> {
 
     ghost prices = { λ c. flat M.Measure.scale c.values };
 
-    ghost few = { λ c. flat_few };
+    ghost few = { Prim.search rules };
 
     fn priced(&self) -> usize {
         MAX_PLACES

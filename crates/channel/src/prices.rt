@@ -10,8 +10,6 @@ pub trait Channel {
 
     ghost prices: { Self → Prices Self.Measure };
 
-    ghost few: { (c : Self) → (prices c).priced ≤ max_places };
-
     // How many places are priced, from place 1.
     fn priced(&self) -> usize
         ensures { result ≡ (prices self.now).priced };
@@ -19,4 +17,6 @@ pub trait Channel {
     // The price of a letter number at a place; the start value at a place that is not priced, and above 3.
     fn price(&self, place: usize, letter: u8) -> Self::Measure
         ensures { result ≡ asked Self.Measure.Measure.scale (prices self.now) place letter };
+
+    ghost few: { (c : Self) → (prices c).priced ≤ max_places };
 }

@@ -1,6 +1,7 @@
 // A channel of values in a list that is handed in, four to a place.
 ghost use Rattle.std.specs.Prelude.{◌≡◌};
-ghost use Rattle.channel.specs.Channels.{tabled, tabled_few};
+ghost use Rattle.channel.specs.Channels.{tabled};
+ghost use Rattle.std.proofs.Common.{rules};
 
 use super::prices::Channel;
 use measure::Measure;
@@ -20,12 +21,12 @@ impl<'a, M: Measure> Table<'a, M> {
     }
 }
 
-impl<'a, M: Measure> Channel for Table<'a, M> {
+impl<M: Measure> Channel for Table<'_, M> {
     type Measure = M;
 
     ghost prices = { λ c. tabled M.Measure.scale c.entries.now };
 
-    ghost few = { λ c. tabled_few c.entries.now };
+    ghost few = { Prim.search rules };
 
     fn priced(&self) -> usize {
         (self.entries.len() / 4).min(MAX_PLACES)
