@@ -33,7 +33,7 @@ impl<M: Measure> Channel for Flat<M> {
     }
 
     fn price(&self, place: usize, letter: u8) -> M {
-        if place >= 1 && place <= MAX_PLACES && letter < 4 {
+        if (1..=self.priced()).contains(&place) && letter < 4 {
             self.values[letter as usize]
         } else {
             M::start()

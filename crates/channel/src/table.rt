@@ -33,7 +33,7 @@ impl<M: Measure> Channel for Table<'_, M> {
     }
 
     fn price(&self, place: usize, letter: u8) -> M {
-        if place >= 1 && place <= self.priced() && letter < 4 {
+        if (1..=self.priced()).contains(&place) && letter < 4 {
             self.entries[4 * (place - 1) + letter as usize]
         } else {
             M::start()
