@@ -9,13 +9,14 @@ use measure::Measure;
 
 // The measure of a word of letter numbers: the start value, joined with the price of one letter after another from place 1. A number
 // above 3 costs the start value.
+#[tactic(auto, using(crate::proofs::Joined::joining))]
 pub fn measure_of<C: Channel>(channel: &C, word: &[u8]) -> C::Measure
     ensures numbers { result ≡ measure_of_numbers C.Measure.Measure.scale (C.Channel.prices channel.now) word.now }
     ensures letters { (w : Word) → word.now ≡ map number w → result ≡ measure_of C.Measure.Measure.scale (C.Channel.prices channel.now) w }
 {
     let mut total = C::Measure::start();
-    for (i, letter) in word.iter().enumerate() {
-        total = total.join(channel.price(i + 1, *letter));
+    for (i, &letter) in word.iter().enumerate() {
+        total = total.join(channel.price(i + 1, letter));
     }
     total
 }
