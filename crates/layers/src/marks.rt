@@ -3,7 +3,7 @@ ghost use Rattle.std.specs.Prelude.{◌≡◌, true, false, replicate};
 ghost use Rattle.pauli.specs.Limits.{max_places};
 ghost use Rattle.pauli.specs.Tables.{entry, put};
 
-use pauli::MAX_PLACES;
+use pauli::{MAX_PLACES, entry_at, put_entry};
 
 #[derive(Clone, Copy)]
 pub struct Marks {
@@ -24,15 +24,13 @@ impl Marks {
     pub fn mark(&mut self, place: usize)
         ensures { self.new.marks ≡ put self.old.marks place true }
     {
-        if place >= 1 && place <= MAX_PLACES {
-            self.marks[place - 1] = true;
-        }
+        put_entry(&mut self.marks, place, true);
     }
 
     // Whether a place is marked; none that the table does not have is.
     pub fn has(&self, place: usize) -> bool
         ensures { result ≡ entry self.now.marks place false }
     {
-        place >= 1 && place <= MAX_PLACES && self.marks[place - 1]
+        entry_at(&self.marks, place, false)
     }
 }
