@@ -1,9 +1,9 @@
 -- The measure of a word, letter by letter, from the laws of its scale alone. Assumes nothing.
-use Rattle.std.proofs.Common.{◌≡◌, ℕ, ◌+◌, ◌<◌, List, [], ◌∷◌, ◌++◌, map, length, get_or, take, refl, arith}
+use Rattle.std.proofs.Common.{◌≡◌, ℕ, suc, ◌+◌, ◌<◌, List, [], ◌∷◌, ◌++◌, map, length, get_or, take, refl, arith}
 use Rattle.std.proofs.lemmas.List.{take_more, take_all, length-take-le}
 use Rattle.std.proofs.lemmas.Bool.Decides.{nat_tests}
 use Rattle.pauli.specs.Letters.{Letter, I, X, Y, Z, number}
-use Rattle.pauli.specs.Words.{Word}
+use Rattle.pauli.specs.Words.{Word, at}
 use Rattle.measure.specs.Scale.{Scale, Le, Lawful}
 use Rattle.channel.specs.Prices.{Prices, cost, asked, joined_from, measure_of, measure_of_numbers}
 use Rattle.channel.specs.Laws.{Alike, MeasureLaws}
@@ -18,10 +18,16 @@ module _ {V E : Type 0} (join : V → V → V) (price : ℕ → E → V) where
       → join (joined_from join price v 1 (take i w)) (price (i + 1) (get_or w i x)) ≡ joined_from join price v 1 (take (i + 1) w)
   joined_take w x v i h = grind (arith, take_more w i x h, joined_append (take i w) (get_or w i x ∷ []) 1 v, length-take-le i w)
 
--- words measure the same where their letters cost the same
-pub joined_same : {V E : Type 0} (join : V → V → V) (f g : ℕ → E → V) → ((p : ℕ) (e : E) → f p e ≡ g p e) → (w : List E) (p : ℕ) (v : V) → joined_from join f v p w ≡ joined_from join g v p w
-joined_same join f g same [] p v = refl
-joined_same join f g same (e ∷ w) p v = cc (same p e, joined_same join f g same w (p + 1) (join v (g p e)))
+-- two words measure the same if the letters at each place cost the same
+pub joined_places : {V : Type 0} (join : V → V → V) (f g : ℕ → Letter → V) (u v : Word) (p : ℕ) (x : V)
+    → length u ≡ length v → ((k : ℕ) → k < length u → f (p + k) (at k u) ≡ g (p + k) (at k v))
+    → joined_from join f x p u ≡ joined_from join g x p v
+joined_places join f g [] [] p x same h = refl
+joined_places join f g [] (b ∷ v) p x same h = absurd (omega arith)
+joined_places join f g (a ∷ u) [] p x same h = absurd (omega arith)
+joined_places join f g (a ∷ u) (b ∷ v) p x same h =
+    let rest = joined_places join f g u v (p + 1) (join x (g p b)) (omega arith) (λ k lt. grind (arith, h (suc k))) in
+    grind (arith, h 0, rest)
 
 -- ---- letters and their numbers
 
@@ -64,5 +70,5 @@ measure_laws s laws = record {
   last = λ c w e. joined_append s.join (cost s c) w (e ∷ []) 1 s.start;
   numbers = measure_numbers s;
   keeps = λ c. joined_keeps laws (cost s c);
-  alike = λ c d same w. joined_same s.join (cost s c) (cost s d) (cost_alike s c d same) w 1 s.start;
+  alike = λ c d same w. joined_places s.join (cost s c) (cost s d) w w 1 s.start refl (λ k lt. cost_alike s c d same (1 + k) (at k w));
 }

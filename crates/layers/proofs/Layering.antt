@@ -1,5 +1,5 @@
 -- What the layers do to the measure of a word. Assumes nothing.
-use Rattle.std.proofs.Common.{◌≡◌, ℕ, suc, ◌+◌, ◌%◌, ◌<◌, ◌≤◌, List, [], ◌∷◌, length, refl, arith}
+use Rattle.std.proofs.Common.{◌≡◌, ℕ, ◌+◌, ◌%◌, ◌<◌, ◌≤◌, List, length, refl, arith}
 use Rattle.std.proofs.lemmas.List.{get_or-map, length-map}
 use Rattle.std.proofs.lemmas.Bool.Decides.{nat_tests}
 use Rattle.pauli.specs.Letters.{Letter, I, letter, plus}
@@ -7,20 +7,10 @@ use Rattle.pauli.specs.Limits.{max_places}
 use Rattle.pauli.specs.Words.{Word, add, at}
 use Rattle.pauli.proofs.WordLaws.{at-add, length-sum}
 use Rattle.measure.specs.Scale.{Scale}
-use Rattle.channel.specs.Prices.{cost, joined_from}
+use Rattle.channel.specs.Prices.{cost}
+use Rattle.channel.proofs.Joined.{joined_places}
 use Rattle.layers.specs.Layers.{erased, shifted, shift_at}
 use Rattle.layers.specs.Laws.{shift_word, LayerLaws}
-
--- two words measure the same if the letters at each place cost the same
-joined_places : {V : Type 0} (join : V → V → V) (f g : ℕ → Letter → V) (u v : Word) (p : ℕ) (x : V)
-    → length u ≡ length v → ((k : ℕ) → k < length u → f (p + k) (at k u) ≡ g (p + k) (at k v))
-    → joined_from join f x p u ≡ joined_from join g x p v
-joined_places join f g [] [] p x same h = refl
-joined_places join f g [] (b ∷ v) p x same h = absurd (omega arith)
-joined_places join f g (a ∷ u) [] p x same h = absurd (omega arith)
-joined_places join f g (a ∷ u) (b ∷ v) p x same h =
-    let rest = joined_places join f g u v (p + 1) (join x (g p b)) (omega arith) (λ k lt. grind (arith, h (suc k))) in
-    grind (arith, h 0, rest)
 
 -- the letters of a shifted word are those of its sum with the word of the shifts
 shifted-letter : (shifts : List ℕ) (w : Word) (k : ℕ) → k < length w → length w ≤ length shifts → length shifts ≤ max_places
@@ -31,7 +21,9 @@ shifted-letter shifts w k lt long few =
 
 pub layer_laws : {V : Type 0} (s : Scale V) → LayerLaws s
 layer_laws s = record {
-  erases = λ c marks u v long same. let e = erased s marks c in joined_places s.join (cost s e) (cost s e) u v 1 s.start long (λ k lt. grind (arith, same k));
+  erases = λ c marks u v long same.
+      let e = erased s marks c in
+      joined_places s.join (cost s e) (cost s e) u v 1 s.start long (λ k lt. grind (arith, same k));
   shifts = λ c shifts w long few.
       let l = length-map shifts (λ (n : ℕ). letter (n % 4)) in
       joined_places s.join (cost s (shifted shifts c)) (cost s c) w (add w (shift_word shifts)) 1 s.start
