@@ -24,7 +24,7 @@ impl<M: Measure> Flat<M> {
 impl<M: Measure> Channel for Flat<M> {
     type Measure = M;
 
-    ghost prices = { λ c. flat M.Measure.scale c.values };
+    ghost prices = { λ c. flat M.scale c.values };
 
     ghost few = { Prim.search rules };
 

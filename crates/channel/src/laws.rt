@@ -5,5 +5,5 @@ use super::prices::Channel;
 
 // What holds of the measures of words under every channel of this channel's measure.
 pub fn words_measured<C: Channel>(_channel: &C)
-    ensures { MeasureLaws C.Measure.Measure.scale }
+    ensures { MeasureLaws C.Measure.scale }
 {}

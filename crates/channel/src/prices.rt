@@ -16,7 +16,7 @@ pub trait Channel {
 
     // The price of a letter number at a place; the start value at a place that is not priced, and above 3.
     fn price(&self, place: usize, letter: u8) -> Self::Measure
-        ensures { result ≡ asked Self.Measure.Measure.scale (prices self.now) place letter };
+        ensures { result ≡ asked Self.Measure.scale (prices self.now) place letter };
 
     ghost few: { (c : Self) → (prices c).priced ≤ max_places };
 }

@@ -24,7 +24,7 @@ impl<'a, M: Measure> Table<'a, M> {
 impl<M: Measure> Channel for Table<'_, M> {
     type Measure = M;
 
-    ghost prices = { λ c. tabled M.Measure.scale c.entries.now };
+    ghost prices = { λ c. tabled M.scale c.entries.now };
 
     ghost few = { Prim.search rules };
 

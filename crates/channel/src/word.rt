@@ -11,8 +11,8 @@ use measure::Measure;
 // above 3 costs the start value.
 #[tactic(auto, using(crate::proofs::Joined::joining))]
 pub fn measure_of<C: Channel>(channel: &C, word: &[u8]) -> C::Measure
-    ensures numbers { result ≡ measure_of_numbers C.Measure.Measure.scale (C.Channel.prices channel.now) word.now }
-    ensures letters { (w : Word) → word.now ≡ map number w → result ≡ measure_of C.Measure.Measure.scale (C.Channel.prices channel.now) w }
+    ensures numbers { result ≡ measure_of_numbers C.Measure.scale (C.prices channel.now) word.now }
+    ensures letters { (w : Word) → word.now ≡ map number w → result ≡ measure_of C.Measure.scale (C.prices channel.now) w }
 {
     let mut total = C::Measure::start();
     for (i, &letter) in word.iter().enumerate() {

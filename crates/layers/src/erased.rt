@@ -25,9 +25,9 @@ impl<C: Channel> Erased<C> {
 impl<C: Channel> Channel for Erased<C> {
     type Measure = C::Measure;
 
-    ghost prices = { λ c. erased C.Measure.Measure.scale c.marks.marks (C.Channel.prices c.below) };
+    ghost prices = { λ c. erased C.Measure.scale c.marks.marks (C.prices c.below) };
 
-    ghost few = { λ c. C.Channel.few c.below };
+    ghost few = { λ c. C.few c.below };
 
     fn priced(&self) -> usize {
         self.below.priced()

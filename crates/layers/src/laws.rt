@@ -5,5 +5,5 @@ use channel::Channel;
 
 // What the layers do to the measures of words, over every channel of this channel's measure.
 pub fn layers_measured<C: Channel>(_channel: &C)
-    ensures { LayerLaws C.Measure.Measure.scale }
+    ensures { LayerLaws C.Measure.scale }
 {}

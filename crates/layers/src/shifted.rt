@@ -25,9 +25,9 @@ impl<C: Channel> Shifted<C> {
 impl<C: Channel> Channel for Shifted<C> {
     type Measure = C::Measure;
 
-    ghost prices = { λ c. shifted c.shifts.numbers (C.Channel.prices c.below) };
+    ghost prices = { λ c. shifted c.shifts.numbers (C.prices c.below) };
 
-    ghost few = { λ c. C.Channel.few c.below };
+    ghost few = { λ c. C.few c.below };
 
     fn priced(&self) -> usize {
         self.below.priced()

@@ -22,9 +22,9 @@ impl<C: Channel<Measure = Sum>> WorstOf<C> {
 impl<C: Channel<Measure = Sum>> Channel for WorstOf<C> {
     type Measure = Worst;
 
-    ghost prices = { λ c. worst_of (C.Channel.prices c.below) };
+    ghost prices = { λ c. worst_of (C.prices c.below) };
 
-    ghost few = { λ c. C.Channel.few c.below };
+    ghost few = { λ c. C.few c.below };
 
     fn priced(&self) -> usize {
         self.below.priced()
