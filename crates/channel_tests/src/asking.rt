@@ -11,8 +11,8 @@ pub fn check_prices<C: Channel<Measure = Sum>>(
     prices: &[(usize, u8, u32)],
 ) {
     assert_eq!(rt; channel.priced(), places);
-    for (place, letter, price) in prices {
-        assert_eq!(rt; channel.price(*place, *letter).0, *price);
+    for &(place, letter, price) in prices {
+        assert_eq!(rt; channel.price(place, letter), Sum(price));
     }
 }
 
@@ -23,5 +23,5 @@ pub fn check_total<C: Channel<Measure = Sum>>(
     word: &[u8],
     total: u32,
 ) {
-    assert_eq!(rt; measure_of(channel, word).0, total);
+    assert_eq!(rt; measure_of(channel, word), Sum(total));
 }

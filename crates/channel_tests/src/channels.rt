@@ -4,6 +4,7 @@ use super::fading::Fading;
 use channel::{Channel, Flat, Table, measure_of};
 use measure::{Sum, Worst};
 use pauli::MAX_PLACES;
+use std::array;
 
 // Places and letter numbers, with what they cost where I, X, Y and Z cost 5, 6, 7 and 8 everywhere.
 const FLAT: [(usize, u8, u32); 16] = [
@@ -50,16 +51,12 @@ const LENGTHS: [(usize, usize); 8] = [
 
 // Many entries, of which entry k costs 1000 + k.
 fn counted() -> [Sum; LONG] {
-    let mut entries = [Sum(0); LONG];
-    for k in 0..LONG {
-        entries[k] = Sum(1000 + k as u32);
-    }
-    entries
+    array::from_fn(|k| Sum(1000 + k as u32))
 }
 
 // The price of a letter at a place of such a table.
 fn due(places: usize, place: usize, letter: u8) -> u32 {
-    if place == 0 || place > places || letter > 3 {
+    if !(1..=places).contains(&place) || letter > 3 {
         return 0;
     }
     let index = place.min(MAX_PLACES) - 1;
@@ -69,50 +66,20 @@ fn due(places: usize, place: usize, letter: u8) -> u32 {
 #[test]
 fn a_table_prices_a_quarter_of_its_length(rt: HostRuntime) {
     let entries = counted();
-    for (length, places) in LENGTHS.iter() {
-        let table = Table::new(&entries[..(*length).min(LONG)]);
-        assert_eq!(rt; table.priced(), *places);
-        let last = (*places).min(MAX_PLACES);
-        for place in [0, 1, 2, last, last + 1, MAX_PLACES, usize::MAX].iter() {
-            for letter in [0, 1, 2, 3, 4, 255].iter() {
-                assert_eq!(rt; table.price(*place, *letter).0, due(last, *place, *letter));
+    for (length, places) in LENGTHS {
+        let table = Table::new(&entries[..length.min(LONG)]);
+        assert_eq!(rt; table.priced(), places);
+        let last = places.min(MAX_PLACES);
+        for place in [0, 1, 2, last, last + 1, MAX_PLACES, usize::MAX] {
+            for letter in [0, 1, 2, 3, 4, 255] {
+                assert_eq!(rt; table.price(place, letter), Sum(due(last, place, letter)));
             }
         }
     }
 }
 
-const SUMS: [Sum; 8] = [
-    Sum(0),
-    Sum(1),
-    Sum(2),
-    Sum(3),
-    Sum(0),
-    Sum(10),
-    Sum(20),
-    Sum(30),
-];
-
-const WORSTS: [Worst; 8] = [
-    Worst(0),
-    Worst(1),
-    Worst(2),
-    Worst(3),
-    Worst(0),
-    Worst(10),
-    Worst(20),
-    Worst(30),
-];
-
-const FADINGS: [Fading; 8] = [
-    Fading(0),
-    Fading(1),
-    Fading(2),
-    Fading(3),
-    Fading(0),
-    Fading(10),
-    Fading(20),
-    Fading(30),
-];
+// Two places: 0, 1, 2 and 3 at the first, 0, 10, 20 and 30 at the second.
+const NUMBERS: [u32; 8] = [0, 1, 2, 3, 0, 10, 20, 30];
 
 // Words by their letter numbers, each with its total, its largest price, and its measure where earlier prices count double.
 const WORDS: [(&[u8], u32, u32, u32); 7] = [
@@ -127,9 +94,12 @@ const WORDS: [(&[u8], u32, u32, u32); 7] = [
 
 #[test]
 fn a_word_measures_its_letters_from_place_one(rt: HostRuntime) {
-    for (word, total, largest, faded) in WORDS.iter() {
-        assert_eq!(rt; measure_of(&Table::new(&SUMS), word).0, *total);
-        assert_eq!(rt; measure_of(&Table::new(&WORSTS), word).0, *largest);
-        assert_eq!(rt; measure_of(&Table::new(&FADINGS), word).0, *faded);
+    let sums = NUMBERS.map(Sum);
+    let worsts = NUMBERS.map(Worst);
+    let fadings = NUMBERS.map(Fading);
+    for (word, total, largest, faded) in WORDS {
+        assert_eq!(rt; measure_of(&Table::new(&sums), word), Sum(total));
+        assert_eq!(rt; measure_of(&Table::new(&worsts), word), Worst(largest));
+        assert_eq!(rt; measure_of(&Table::new(&fadings), word), Fading(faded));
     }
 }

@@ -5,7 +5,7 @@ ghost use Rattle.std.proofs.Common.{rules};
 
 use measure::Measure;
 
-#[derive(Clone, Copy)]
+#[derive(Clone, Copy, PartialEq, Eq, PartialOrd, Ord, Debug)]
 pub struct Fading(pub u32);
 
 impl Measure for Fading {
@@ -22,6 +22,6 @@ impl Measure for Fading {
     }
 
     fn at_most(self, other: Fading) -> bool {
-        self.0 <= other.0
+        self <= other
     }
 }

@@ -2,7 +2,7 @@
 use super::asking::{check_prices, check_total};
 use channel::{Channel, Flat, Table, measure_of};
 use layers::{Erased, Marks, Shifted, WorstOf};
-use measure::Sum;
+use measure::{Sum, Worst};
 use pauli::{Letters, MAX_PLACES};
 
 // Two places: 5, 6, 7 and 8 at the first, 15, 16, 17 and 18 at the second.
@@ -19,16 +19,16 @@ const PRICES: [Sum; 8] = [
 
 fn marked(places: &[usize]) -> Marks {
     let mut marks = Marks::none();
-    for place in places {
-        marks.mark(*place);
+    for &place in places {
+        marks.mark(place);
     }
     marks
 }
 
 fn shifts(numbers: &[(usize, u8)]) -> Letters {
     let mut letters = Letters::blank();
-    for (place, number) in numbers {
-        letters.put(*place, *number);
+    for &(place, number) in numbers {
+        letters.put(place, number);
     }
     letters
 }
@@ -39,7 +39,7 @@ fn marks_stand_at_their_places(rt: HostRuntime) {
     for place in 0..MAX_PLACES + 3 {
         assert_eq!(rt; marks.has(place), place == 2 || place == MAX_PLACES);
     }
-    assert_eq!(rt; marks.has(usize::MAX), false);
+    assert!(rt; !marks.has(usize::MAX));
 }
 
 #[test]
@@ -52,10 +52,10 @@ fn letters_stand_at_their_places(rt: HostRuntime) {
         (usize::MAX, 3),
     ]);
     for place in 0..MAX_PLACES + 3 {
-        let number = if place == 2 {
-            7
-        } else {
-            (place == MAX_PLACES) as u8
+        let number = match place {
+            2 => 7,
+            MAX_PLACES => 1,
+            _ => 0,
         };
         assert_eq!(rt; letters.at(place), number);
     }
@@ -110,12 +110,12 @@ const UNSHIFTED: [(usize, u8, u32); 9] = [
 
 #[test]
 fn shifted_letters_cost_what_their_sum_costs(rt: HostRuntime) {
-    for (number, prices) in SHIFTS.iter() {
-        let table = shifts(&[(0, 3), (2, *number), (3, *number), (MAX_PLACES + 1, 3)]);
+    for (number, prices) in SHIFTS {
+        let table = shifts(&[(0, 3), (2, number), (3, number), (MAX_PLACES + 1, 3)]);
         let shifted = Shifted::new(Table::new(&PRICES), table);
         check_prices(&rt, &shifted, 2, &UNSHIFTED);
-        for (letter, price) in prices.iter().enumerate() {
-            assert_eq!(rt; shifted.price(2, letter as u8).0, *price);
+        for (letter, price) in (0..).zip(prices) {
+            assert_eq!(rt; shifted.price(2, letter), Sum(price));
         }
     }
 }
@@ -156,9 +156,12 @@ fn layers_nest_in_any_order(rt: HostRuntime) {
 fn a_layer_may_replace_the_measure(rt: HostRuntime) {
     let worst = WorstOf::new(Table::new(&PRICES));
     assert_eq!(rt; worst.priced(), 2);
-    assert_eq!(rt; worst.price(3, 1).0, 0);
-    assert_eq!(rt; measure_of(&worst, &[3, 1]).0, 16);
-    assert_eq!(rt; measure_of(&Erased::new(worst, marked(&[2])), &[3, 1]).0, 8);
+    assert_eq!(rt; worst.price(3, 1), Worst(0));
+    assert_eq!(rt; measure_of(&worst, &[3, 1]), Worst(16));
+    assert_eq!(rt;
+        measure_of(&Erased::new(worst, marked(&[2])), &[3, 1]),
+        Worst(8)
+    );
     let below = Erased::new(Table::new(&PRICES), marked(&[2]));
-    assert_eq!(rt; measure_of(&WorstOf::new(below), &[3, 1]).0, 8);
+    assert_eq!(rt; measure_of(&WorstOf::new(below), &[3, 1]), Worst(8));
 }

@@ -17,18 +17,18 @@ const JOINS: [(u32, u32, u32, u32, bool); 7] = [
 fn values_join_and_compare(rt: HostRuntime) {
     assert_eq!(rt; Sum::start(), Sum(0));
     assert_eq!(rt; Worst::start(), Worst(0));
-    for (a, b, total, larger, at_most) in JOINS.iter() {
-        assert_eq!(rt; Sum(*a).join(Sum(*b)), Sum(*total));
-        assert_eq!(rt; Worst(*a).join(Worst(*b)), Worst(*larger));
-        assert_eq!(rt; Sum(*a).at_most(Sum(*b)), *at_most);
-        assert_eq!(rt; Worst(*a).at_most(Worst(*b)), *at_most);
+    for (a, b, total, larger, at_most) in JOINS {
+        assert_eq!(rt; Sum(a).join(Sum(b)), Sum(total));
+        assert_eq!(rt; Worst(a).join(Worst(b)), Worst(larger));
+        assert_eq!(rt; Sum(a).at_most(Sum(b)), at_most);
+        assert_eq!(rt; Worst(a).at_most(Worst(b)), at_most);
     }
 }
 
 // The three laws ask for no more: this join goes by the order of its arguments, and its start value is not neutral.
 #[test]
 fn a_join_need_not_commute(rt: HostRuntime) {
-    assert_eq!(rt; Fading(1).join(Fading(2)).0, 4);
-    assert_eq!(rt; Fading(2).join(Fading(1)).0, 5);
-    assert_eq!(rt; Fading::start().join(Fading(0)).0, 2);
+    assert_eq!(rt; Fading(1).join(Fading(2)), Fading(4));
+    assert_eq!(rt; Fading(2).join(Fading(1)), Fading(5));
+    assert_eq!(rt; Fading::start().join(Fading(0)), Fading(2));
 }
