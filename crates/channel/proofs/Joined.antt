@@ -2,7 +2,9 @@
 use Rattle.std.proofs.Common.{◌≡◌, ℕ, suc, ◌+◌, ◌<◌, List, [], ◌∷◌, ◌++◌, map, length, get_or, take, refl, arith}
 use Rattle.std.proofs.lemmas.List.{take_more, take_all, length-take-le}
 use Rattle.std.proofs.lemmas.Bool.Decides.{nat_tests}
-use Rattle.pauli.specs.Letters.{Letter, I, X, Y, Z, number}
+use Rattle.pauli.specs.declared.letter.Letter.{Letter}
+use Rattle.pauli.specs.declared.letter.Letter.TheVariants.{I, X, Y, Z}
+use Rattle.pauli.specs.Letters.{number}
 use Rattle.pauli.specs.Words.{Word, at}
 use Rattle.measure.specs.Scale.{Scale, Le, Lawful}
 use Rattle.channel.specs.Prices.{Prices, cost, asked, joined_from, measure_of, measure_of_numbers}

@@ -2,7 +2,9 @@
 use Rattle.std.proofs.Common.{◌≡◌, ℕ, ◌+◌, ◌%◌, ◌<◌, ◌≤◌, List, length, refl, arith}
 use Rattle.std.proofs.lemmas.List.{get_or-map, length-map}
 use Rattle.std.proofs.lemmas.Bool.Decides.{nat_tests}
-use Rattle.pauli.specs.Letters.{Letter, I, letter, plus}
+use Rattle.pauli.specs.declared.letter.Letter.{Letter}
+use Rattle.pauli.specs.declared.letter.Letter.TheVariants.{I}
+use Rattle.pauli.specs.Letters.{letter, plus}
 use Rattle.pauli.specs.Limits.{max_places}
 use Rattle.pauli.specs.Words.{Word, add, at}
 use Rattle.pauli.proofs.WordLaws.{at-add, length-sum}
