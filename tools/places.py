@@ -87,7 +87,7 @@ def points(commit):
             m = re.match(r"(?:'\w+: )?for (.*) in (.*) \{$", s)
             if m:
                 rest = "\n".join(lines[k : k + 12])
-                index = re.match(r"\(?(\w+)", m.group(1)).group(1)
+                index = re.match(r"[(&]*(?:mut )?(\w+)", m.group(1)).group(1)
                 if ".." in m.group(2) and re.search(rf"\[{index}\b|\b{index}\]", rest):
                     note(3, k, s)
                 elif "enumerate" in m.group(2) and re.search(rf"\[{index}\]", rest):

@@ -3,7 +3,8 @@ use std::fmt;
 
 mod bits;
 
-// A bit for each row: whether the error does not commute with it.
+// A bit for each row: whether the error does not commute with it. A set of rows is one number of the machine, without memory to
+// allocate, so how many rows there are stands beside it.
 #[derive(Clone, Copy)]
 pub struct Syndrome {
     rows: usize,

@@ -14,6 +14,8 @@ pub trait Channel {
     fn priced(&self) -> usize
         ensures { result ≡ (prices self.now).priced };
 
+    // A channel is asked by numbers, which the cards' interface fixes, and any number has an answer; so no enum stands here or in an impl.
+
     // The price of a letter number at a place; the start value at a place that is not priced, and above 3.
     fn price(&self, place: usize, letter: u8) -> Self::Measure
         ensures { result ≡ asked Self.Measure.scale (prices self.now) place letter };

@@ -34,6 +34,7 @@ impl<M: Measure> Channel for Table<'_, M> {
 
     fn price(&self, place: usize, letter: u8) -> M {
         if (1..=self.priced()).contains(&place) && letter < 4 {
+            // The list is the caller's memory, four values to a place in a row.
             self.entries[4 * (place - 1) + letter as usize]
         } else {
             M::start()

@@ -12,6 +12,7 @@ mod check;
 mod read;
 mod size;
 
+// A card allocates nothing, so the table has room for every place, and beside it stands how much of it is used.
 #[derive(Clone, Copy)]
 pub struct Code {
     places: usize,

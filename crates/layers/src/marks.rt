@@ -5,6 +5,7 @@ ghost use Rattle.pauli.specs.Tables.{entry, put};
 
 use pauli::{MAX_PLACES, entry_at, put_entry};
 
+// A plain table with functions of its own, as that of letters; what the two share is in pauli's `places`.
 #[derive(Clone, Copy)]
 pub struct Marks {
     marks: [bool; MAX_PLACES],

@@ -6,6 +6,8 @@ ghost use Rattle.pauli.specs.Tables.{entry, put};
 use super::MAX_PLACES;
 use super::places::{entry_at, put_entry};
 
+// A plain table of numbers in fixed memory, as the cards' interface fixes it, and so with functions of its own; what it shares with other
+// tables is in `places`.
 #[derive(Clone, Copy)]
 pub struct Letters {
     pub numbers: [u8; MAX_PLACES],
