@@ -30,8 +30,8 @@ pub record Both (c : Prices Sum) (marks : List Bool) (shifts word : List ℕ) (r
 
 -- under the flat prices of a desk, and under its table
 pub record Reported (desk : Desk) (word : List ℕ) (r : Report) : Type 0 where
-  pub flat_is : Both (flat sums desk.values) desk.marks.marks desk.shifts.numbers word r.flat
-  pub table_is : Both (tabled sums (vec_items desk.entries)) desk.marks.marks desk.shifts.numbers word r.table
+  pub flat_is : Both (flat sums desk.values) desk.overlay.marks.marks desk.overlay.shifts.numbers word r.flat
+  pub table_is : Both (tabled sums (vec_items desk.entries)) desk.overlay.marks.marks desk.overlay.shifts.numbers word r.table
 
 -- what a line that is not a setting comes to: its word is priced, or it is no word from some place on
 abbrev pub WordReply : Desk → List ℕ → Reply → Type 0

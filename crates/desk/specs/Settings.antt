@@ -18,37 +18,35 @@ use Rattle.desk.specs.declared.line.Kind.TheVariants.{Flat, Table, Marks, Shifts
 pub record NewDesk (desk : Desk) : Type 0 where
   pub values_are : desk.values ≡ as_sum 0 ∷ as_sum 1 ∷ as_sum 1 ∷ as_sum 1 ∷ []
   pub entries_are : vec_items desk.entries ≡ []
-  pub marks_are : desk.marks.marks ≡ replicate max_places false
-  pub shifts_are : desk.shifts.numbers ≡ replicate max_places 0
+  pub marks_are : desk.overlay.marks.marks ≡ replicate max_places false
+  pub shifts_are : desk.overlay.shifts.numbers ≡ replicate max_places 0
 
 -- the flat prices become the four that a text writes, and nothing else changes
 pub record FlatSet (text : List ℕ) (before after : Desk) : Type 0 where
   pub values_are : prices_in text ≡ Some after.values
   pub four : length after.values ≡ 4
   pub entries_kept : after.entries ≡ before.entries
-  pub marks_kept : after.marks ≡ before.marks
-  pub shifts_kept : after.shifts ≡ before.shifts
+  pub overlay_kept : after.overlay ≡ before.overlay
 
 -- the table becomes the prices that a text writes, and nothing else changes
 pub record TableSet (text : List ℕ) (before after : Desk) : Type 0 where
   pub entries_are : prices_in text ≡ Some (vec_items after.entries)
   pub values_kept : after.values ≡ before.values
-  pub marks_kept : after.marks ≡ before.marks
-  pub shifts_kept : after.shifts ≡ before.shifts
+  pub overlay_kept : after.overlay ≡ before.overlay
 
 -- the marks become those at the places that a text writes, and nothing else changes
 pub record MarksSet (text : List ℕ) (before after : Desk) : Type 0 where
-  pub marks_are : marks_in text ≡ Some after.marks.marks
+  pub marks_are : marks_in text ≡ Some after.overlay.marks.marks
   pub values_kept : after.values ≡ before.values
   pub entries_kept : after.entries ≡ before.entries
-  pub shifts_kept : after.shifts ≡ before.shifts
+  pub shifts_kept : after.overlay.shifts ≡ before.overlay.shifts
 
 -- the shifts become the letters that a text spells, and nothing else changes
 pub record ShiftsSet (text : List ℕ) (before after : Desk) : Type 0 where
-  pub shifts_are : Read text after.shifts.numbers
+  pub shifts_are : Read text after.overlay.shifts.numbers
   pub values_kept : after.values ≡ before.values
   pub entries_kept : after.entries ≡ before.entries
-  pub marks_kept : after.marks ≡ before.marks
+  pub marks_kept : after.overlay.marks ≡ before.overlay.marks
 
 -- what a setting comes to: it is taken, with no reply; or it is not read, and the desk is as it was
 abbrev pub Setting : Type 0 → Type 0 → Desk → Option Reply → Desk → Type 0

@@ -3,7 +3,7 @@ ghost use Rattle.desk.specs.Reports.{Reported, WordReply};
 ghost use Rattle.desk.specs.Settings.{NewDesk, FlatLine, TableLine, MarksLine, ShiftsLine, Line};
 
 use super::line::{Kind, parted};
-use super::report::{Quotes, price_both};
+use super::report::{Overlay, Quotes};
 use channel::{Flat, Table};
 use layers::Marks;
 use measure::Sum;
@@ -31,8 +31,7 @@ pub enum Reply {
 pub struct Desk {
     values: [Sum; 4],
     entries: Vec<Sum>,
-    marks: Marks,
-    shifts: Letters,
+    overlay: Overlay,
 }
 
 impl Desk {
@@ -43,8 +42,10 @@ impl Desk {
         Desk {
             values: [Sum(0), Sum(1), Sum(1), Sum(1)],
             entries: Vec::new(heap),
-            marks: Marks::none(),
-            shifts: Letters::blank(),
+            overlay: Overlay {
+                marks: Marks::none(),
+                shifts: Letters::blank(),
+            },
         }
     }
 
@@ -53,13 +54,10 @@ impl Desk {
         ensures { Reported self.now word.now result }
     {
         Report {
-            flat: price_both(&Flat::new(self.values), &self.marks, &self.shifts, word),
-            table: price_both(
-                &Table::new(self.entries.as_slice()),
-                &self.marks,
-                &self.shifts,
-                word,
-            ),
+            flat: self.overlay.quotes(&Flat::new(self.values), word),
+            table: self
+                .overlay
+                .quotes(&Table::new(self.entries.as_slice()), word),
         }
     }
 
@@ -105,7 +103,7 @@ impl Desk {
         ensures { MarksLine text.now self.old result self.new }
     {
         match marks_in(text) {
-            Some(marks) => self.marks = marks,
+            Some(marks) => self.overlay.marks = marks,
             None => return Some(Reply::Unread),
         }
         None
@@ -116,7 +114,7 @@ impl Desk {
         ensures { ShiftsLine text.now self.old result self.new }
     {
         match read_word(text.as_bytes()) {
-            Ok(shifts) => self.shifts = shifts,
+            Ok(shifts) => self.overlay.shifts = shifts,
             Err(_) => return Some(Reply::Unread),
         }
         None

@@ -21,38 +21,41 @@ pub struct Quotes {
     pub worst: Quote<Worst>,
 }
 
-// A word of letter numbers under a channel, with marked places erased, with letters shifted, and with both.
-fn price_word<C: Channel + Copy>(
-    channel: &C,
-    marks: &Marks,
-    shifts: &Letters,
-    word: &[u8],
-) -> Quote<C::Measure>
-    ensures { Quoted C.Measure.Measure.scale (C.Channel.prices channel.now) marks.now.marks shifts.now.numbers word.now result }
-{
-    let erased = Erased::new(*channel, *marks);
-    let shifted = Shifted::new(*channel, *shifts);
-    let both = Erased::new(shifted, *marks);
-    Quote {
-        plain: measure_of(channel, word),
-        erased: measure_of(&erased, word),
-        shifted: measure_of(&shifted, word),
-        both: measure_of(&both, word),
-    }
+// What lies over a channel: the places that are marked, and the letters by which words are shifted.
+#[derive(Clone, Copy)]
+pub(super) struct Overlay {
+    pub(super) marks: Marks,
+    pub(super) shifts: Letters,
 }
 
-// How many places a channel prices, and a word by the total of its prices and by the largest of them.
-pub(super) fn price_both<C: Channel<Measure = Sum> + Copy>(
-    channel: &C,
-    marks: &Marks,
-    shifts: &Letters,
-    word: &[u8],
-) -> Quotes
-    ensures { Both (C.Channel.prices channel.now) marks.now.marks shifts.now.numbers word.now result }
-{
-    Quotes {
-        places: channel.priced(),
-        sum: price_word(channel, marks, shifts, word),
-        worst: price_word(&WorstOf::new(*channel), marks, shifts, word),
+impl Overlay {
+    // A word of letter numbers under a channel, with marked places erased, with letters shifted, and with both.
+    fn quote<C: Channel + Copy>(&self, channel: &C, word: &[u8]) -> Quote<C::Measure>
+        ensures { Quoted C.Measure.Measure.scale (C.Channel.prices channel.now) self.now.marks.marks self.now.shifts.numbers word.now result }
+    {
+        let erased = Erased::new(*channel, self.marks);
+        let shifted = Shifted::new(*channel, self.shifts);
+        let both = Erased::new(shifted, self.marks);
+        Quote {
+            plain: measure_of(channel, word),
+            erased: measure_of(&erased, word),
+            shifted: measure_of(&shifted, word),
+            both: measure_of(&both, word),
+        }
+    }
+
+    // How many places a channel prices, and a word by the total of its prices and by the largest of them.
+    pub(super) fn quotes<C: Channel<Measure = Sum> + Copy>(
+        &self,
+        channel: &C,
+        word: &[u8],
+    ) -> Quotes
+        ensures { Both (C.Channel.prices channel.now) self.now.marks.marks self.now.shifts.numbers word.now result }
+    {
+        Quotes {
+            places: channel.priced(),
+            sum: self.quote(channel, word),
+            worst: self.quote(&WorstOf::new(*channel), word),
+        }
     }
 }
