@@ -1,5 +1,5 @@
 -- What a line does to the desk. Assumes nothing.
-use Rattle.std.specs.Prelude.{◌≡◌, ℕ, false, List, [], ◌∷◌, length, replicate, Some, None, vec_items, Option, Result, MatchResult, ◌≢◌}
+use Rattle.std.specs.Prelude.{◌≡◌, ℕ, false, List, [], ◌∷◌, length, replicate, Ok, Err, Some, None, vec_items, Option, Result, MatchResult, ◌≢◌}
 use Rattle.std.specs.declared.alloc.AllocError.{AllocError}
 use Rattle.pauli.specs.Limits.{max_places}
 use Rattle.pauli.specs.Text.{fault, Read}
@@ -11,6 +11,8 @@ use Rattle.desk.specs.Reports.{WordReply}
 use Rattle.desk.specs.declared.desk.Desk.{Desk}
 use Rattle.desk.specs.declared.desk.Reply.{Reply}
 use Rattle.desk.specs.declared.desk.Reply.TheVariants.{Unread}
+use Rattle.desk.specs.declared.desk.NotSet.{NotSet}
+use Rattle.desk.specs.declared.desk.NotSet.TheVariants.{NotRead, NoMemory}
 use Rattle.desk.specs.declared.line.Kind.{Kind}
 use Rattle.desk.specs.declared.line.Kind.TheVariants.{Flat, Table, Marks, Shifts, Word}
 
@@ -48,6 +50,12 @@ pub record ShiftsSet (text : List ℕ) (before after : Desk) : Type 0 where
   pub entries_kept : after.entries ≡ before.entries
   pub marks_kept : after.overlay.marks ≡ before.overlay.marks
 
+-- how a setting is answered: with nothing where it is taken, and otherwise as not read, or by the error of memory
+abbrev pub answered : Result (Unit {0}) NotSet → Result (Option Reply) AllocError
+answered (Ok _) = Ok None
+answered (Err NotRead) = Ok (Some Unread)
+answered (Err (NoMemory error)) = Err error
+
 -- what a setting comes to: it is taken, with no reply; or it is not read, and the desk is as it was
 abbrev pub Setting : Type 0 → Type 0 → Desk → Option Reply → Desk → Type 0
 Setting taken unread before None after = taken
@@ -65,12 +73,14 @@ TableLine text before answer after =
     MatchResult answer (λ reply. Setting (TableSet text before after) (prices_in text ≡ None) before reply after) (λ _. after ≡ before)
 
 -- marks: not read where some word is no place
-abbrev pub MarksLine : List ℕ → Desk → Option Reply → Desk → Type 0
-MarksLine text before reply after = Setting (MarksSet text before after) (marks_in text ≡ None) before reply after
+abbrev pub MarksLine : List ℕ → Desk → Result (Option Reply) AllocError → Desk → Type 0
+MarksLine text before answer after =
+    MatchResult answer (λ reply. Setting (MarksSet text before after) (marks_in text ≡ None) before reply after) (λ _. ⊥)
 
 -- shifts: not read where the text is no word
-abbrev pub ShiftsLine : List ℕ → Desk → Option Reply → Desk → Type 0
-ShiftsLine text before reply after = Setting (ShiftsSet text before after) (fault text ≢ None) before reply after
+abbrev pub ShiftsLine : List ℕ → Desk → Result (Option Reply) AllocError → Desk → Type 0
+ShiftsLine text before answer after =
+    MatchResult answer (λ reply. Setting (ShiftsSet text before after) (fault text ≢ None) before reply after) (λ _. ⊥)
 
 -- a word: its reply, and the desk is as it was
 abbrev pub WordLine : List ℕ → Desk → Option Reply → Desk → Type 0
@@ -81,8 +91,8 @@ WordLine line before (Some reply) after = WordReply before line reply × (after 
 abbrev pub LineAt : Kind → List ℕ → List ℕ → Desk → Result (Option Reply) AllocError → Desk → Type 0
 LineAt Flat line rest before answer after = FlatLine rest before answer after
 LineAt Table line rest before answer after = TableLine rest before answer after
-LineAt Marks line rest before answer after = MatchResult answer (λ reply. MarksLine rest before reply after) (λ _. ⊥)
-LineAt Shifts line rest before answer after = MatchResult answer (λ reply. ShiftsLine rest before reply after) (λ _. ⊥)
+LineAt Marks line rest before answer after = MarksLine rest before answer after
+LineAt Shifts line rest before answer after = ShiftsLine rest before answer after
 LineAt Word line rest before answer after = MatchResult answer (λ reply. WordLine line before reply after) (λ _. ⊥)
 
 -- one line

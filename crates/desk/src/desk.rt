@@ -1,6 +1,8 @@
 // The channels that words are priced under, as the lines read so far have set them.
 ghost use Rattle.desk.specs.Reports.{Reported, WordReply};
-ghost use Rattle.desk.specs.Settings.{NewDesk, FlatLine, TableLine, MarksLine, ShiftsLine, Line};
+ghost use Rattle.std.specs.Prelude.{◌≡◌};
+ghost use Rattle.desk.specs.Settings.{NewDesk, answered, FlatLine, TableLine, MarksLine, ShiftsLine, Line};
+ghost use Rattle.desk.specs.declared.desk.NotSet.TheVariants.{NoMemory};
 
 use super::line::{Kind, parted};
 use super::report::{Overlay, Quotes};
@@ -25,6 +27,33 @@ pub enum Reply {
     NoWord { place: usize },
     // The line names a setting, and what follows is not what that setting takes.
     Unread,
+}
+
+// Why a setting was not taken.
+#[derive(Clone, Copy)]
+enum NotSet {
+    // What follows its name is not what it takes.
+    NotRead,
+    NoMemory { error: AllocError },
+}
+
+impl From<AllocError> for NotSet {
+    ghost from_gives = { λ error r. r ≡ NoMemory error };
+
+    fn from(error: AllocError) -> NotSet {
+        NotSet::NoMemory { error }
+    }
+}
+
+// What a setting is answered: nothing where it was taken.
+fn answered(set: Result<(), NotSet>) -> Result<Option<Reply>, AllocError>
+    ensures { result ≡ answered set }
+{
+    match set {
+        Ok(()) => Ok(None),
+        Err(NotSet::NotRead) => Ok(Some(Reply::Unread)),
+        Err(NotSet::NoMemory { error }) => Err(error),
+    }
 }
 
 #[derive(Drop)]
@@ -74,50 +103,36 @@ impl Desk {
     }
 
     // Sets the prices of I, X, Y and Z; there must be just four.
-    fn set_flat(&mut self, heap: Global, text: &str) -> Result<Option<Reply>, AllocError>
-        ensures { FlatLine text.now self.old result self.new }
+    fn set_flat(&mut self, heap: Global, text: &str) -> Result<(), NotSet>
+        ensures { FlatLine text.now self.old (answered result) self.new }
     {
-        let Some(prices) = prices_in(heap, text)? else {
-            return Ok(Some(Reply::Unread));
-        };
-        let Ok(values) = <[Sum; 4]>::try_from(prices.as_slice()) else {
-            return Ok(Some(Reply::Unread));
-        };
-        self.values = values;
-        Ok(None)
+        let prices = prices_in(heap, text)?.ok_or(NotSet::NotRead)?;
+        self.values = <[Sum; 4]>::try_from(prices.as_slice()).map_err(|_| NotSet::NotRead)?;
+        Ok(())
     }
 
     // Sets the entries of the table, four to a place.
-    fn set_table(&mut self, heap: Global, text: &str) -> Result<Option<Reply>, AllocError>
-        ensures { TableLine text.now self.old result self.new }
+    fn set_table(&mut self, heap: Global, text: &str) -> Result<(), NotSet>
+        ensures { TableLine text.now self.old (answered result) self.new }
     {
-        let Some(entries) = prices_in(heap, text)? else {
-            return Ok(Some(Reply::Unread));
-        };
-        self.entries = entries;
-        Ok(None)
+        self.entries = prices_in(heap, text)?.ok_or(NotSet::NotRead)?;
+        Ok(())
     }
 
     // Marks these places and no others.
-    fn set_marks(&mut self, text: &str) -> Option<Reply>
-        ensures { MarksLine text.now self.old result self.new }
+    fn set_marks(&mut self, text: &str) -> Result<(), NotSet>
+        ensures { MarksLine text.now self.old (answered result) self.new }
     {
-        match marks_in(text) {
-            Some(marks) => self.overlay.marks = marks,
-            None => return Some(Reply::Unread),
-        }
-        None
+        self.overlay.marks = marks_in(text).ok_or(NotSet::NotRead)?;
+        Ok(())
     }
 
     // Sets the letters by which words are shifted, with I after them.
-    fn set_shifts(&mut self, text: &str) -> Option<Reply>
-        ensures { ShiftsLine text.now self.old result self.new }
+    fn set_shifts(&mut self, text: &str) -> Result<(), NotSet>
+        ensures { ShiftsLine text.now self.old (answered result) self.new }
     {
-        match read_word(text.as_bytes()) {
-            Ok(shifts) => self.overlay.shifts = shifts,
-            Err(_) => return Some(Reply::Unread),
-        }
-        None
+        self.overlay.shifts = read_word(text.as_bytes()).map_err(|_| NotSet::NotRead)?;
+        Ok(())
     }
 
     // Takes one line: a setting, or a word to price.
@@ -125,12 +140,14 @@ impl Desk {
         ensures { Line line.now self.old result self.new }
     {
         let (kind, rest) = parted(line);
-        match kind {
+        // A match over the kinds leaves none out, and needs no dyn.
+        let set = match kind {
             Kind::Flat => self.set_flat(heap, rest),
             Kind::Table => self.set_table(heap, rest),
-            Kind::Marks => Ok(self.set_marks(rest)),
-            Kind::Shifts => Ok(self.set_shifts(rest)),
-            Kind::Word => Ok(Some(self.word(line))),
-        }
+            Kind::Marks => self.set_marks(rest),
+            Kind::Shifts => self.set_shifts(rest),
+            Kind::Word => return Ok(Some(self.word(line))),
+        };
+        answered(set)
     }
 }

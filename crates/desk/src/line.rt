@@ -13,15 +13,17 @@ pub(super) enum Kind {
 }
 
 // What a name names.
-fn kind_of(name: &str) -> Kind
-    ensures { Names result name.now }
-{
-    match name {
-        "flat" => Kind::Flat,
-        "table" => Kind::Table,
-        "marks" => Kind::Marks,
-        "shifts" => Kind::Shifts,
-        _ => Kind::Word,
+impl From<&str> for Kind {
+    ghost from_gives = { λ name kind. Names kind name.now };
+
+    fn from(name: &str) -> Kind {
+        match name {
+            "flat" => Kind::Flat,
+            "table" => Kind::Table,
+            "marks" => Kind::Marks,
+            "shifts" => Kind::Shifts,
+            _ => Kind::Word,
+        }
     }
 }
 
@@ -30,21 +32,16 @@ fn cut(text: &str) -> (&str, &str)
     ensures name { result.0.now ≡ name_of text.now }
     ensures rest { result.1.now ≡ rest_of text.now }
 {
-    match text.split_once(' ') {
-        Some(parts) => parts,
-        None => (text, ""),
-    }
+    text.split_once(' ').unwrap_or((text, ""))
 }
 
 // What a line is, and what stands after its name; a line that is no text is no setting.
 pub(super) fn parted(line: &[u8]) -> (Kind, &str)
     ensures { Parted line.now result.0 result.1.now }
 {
-    match std::str::from_utf8(line) {
-        Ok(text) => {
-            let (name, rest) = cut(text);
-            (kind_of(name), rest)
-        }
-        Err(_) => (Kind::Word, ""),
-    }
+    let Ok(text) = std::str::from_utf8(line) else {
+        return (Kind::Word, "");
+    };
+    let (name, rest) = cut(text);
+    (Kind::from(name), rest)
 }
