@@ -91,6 +91,7 @@ impl Desk {
     }
 
     // The word of a line, priced, or the first place at which the line is no word.
+    #[tactic(auto, using(pauli::proofs::Reading::front_read))]
     fn word(&self, line: &[u8]) -> Reply
         ensures { WordReply self.now line.now result }
     {
