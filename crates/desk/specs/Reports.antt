@@ -1,5 +1,6 @@
 -- What a word measures under a channel, under the layers over it, and by each measure. Assumes nothing.
-use Rattle.std.specs.Prelude.{◌≡◌, ℕ, Bool, List, map, Some, None, vec_items}
+use Rattle.std.specs.Prelude.{◌≡◌, ℕ, Bool, List, map, Some, None, Option, codes, vec_items}
+use Rattle.std.specs.Fmt.{◌++?◌}
 use Rattle.pauli.specs.Letters.{number}
 use Rattle.pauli.specs.Text.{fault, word_of}
 use Rattle.measure.specs.Scale.{Scale}
@@ -21,6 +22,11 @@ pub record Quoted {V : Type 0} (s : Scale V) (c : Prices V) (marks : List Bool) 
   pub erased_is : r.erased ≡ measure_of_numbers s (erased s marks c) word
   pub shifted_is : r.shifted ≡ measure_of_numbers s (shifted shifts c) word
   pub both_is : r.both ≡ measure_of_numbers s (erased s marks (shifted shifts c)) word
+
+-- a quote as text, where its measures are text
+abbrev pub quote_text : {V : Type 0} → (V → Option (List ℕ)) → Quote V → Option (List ℕ)
+quote_text text q =
+    text q.plain ++? Some (codes ", erased ") ++? text q.erased ++? Some (codes ", shifted ") ++? text q.shifted ++? Some (codes ", both ") ++? text q.both
 
 -- how many places are priced, and the measures by the total of the prices and by the largest of them
 pub record Both (c : Prices Sum) (marks : List Bool) (shifts word : List ℕ) (r : Quotes) : Type 0 where

@@ -1,10 +1,11 @@
 // What a word measures under a channel, under the layers over it, and by each measure.
-ghost use Rattle.desk.specs.Reports.{Quoted, Both};
+ghost use Rattle.desk.specs.Reports.{Quoted, Both, quote_text};
 
 use channel::{Channel, measure_of};
 use layers::{Erased, Marks, Shifted, WorstOf};
 use measure::{Sum, Worst};
 use pauli::Letters;
+use std::fmt;
 
 #[derive(Clone, Copy)]
 pub struct Quote<M> {
@@ -12,6 +13,24 @@ pub struct Quote<M> {
     pub erased: M,
     pub shifted: M,
     pub both: M,
+}
+
+// The four measures on one line.
+impl<M: fmt::Display> fmt::Display for Quote<M> {
+    ghost output = { quote_text M.output };
+
+    fn fmt<W: fmt::Write>(&self, f: &mut fmt::Formatter<W>) -> fmt::Result {
+        let Quote {
+            plain,
+            erased,
+            shifted,
+            both,
+        } = self;
+        write!(
+            f,
+            "{plain}, erased {erased}, shifted {shifted}, both {both}"
+        )
+    }
 }
 
 #[derive(Clone, Copy)]
