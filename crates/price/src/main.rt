@@ -14,9 +14,8 @@ fn main(rt: HostRuntime) -> io::Result<()> {
     for line in BufReader::new(rt.alloc(), rt.stdin())?.split(rt.alloc(), b'\n') {
         let line = line?;
         if let Some(reply) = desk.line(rt.alloc(), line.as_slice())? {
-            let shown = Shown(reply);
             rt.stdout().write_all(line.as_slice())?;
-            println!(rt; ":{shown}")?;
+            println!(rt; ":{}", Shown(reply))?;
         }
     }
     Ok(())
