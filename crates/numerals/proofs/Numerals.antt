@@ -1,5 +1,5 @@
 -- The numbers that words write, as `parse` reads them. Assumes nothing.
-use Rattle.std.proofs.Common.{◌≡◌, ℕ, ◌^◌, ◌<◌, true, List, [], ◌∷◌, ◌⊎◌, inl, inr, Some, None, Option, refl, sym, ◌∙◌, append_assoc, append-nil, arith}
+use Rattle.std.proofs.Common.{◌≡◌, ℕ, ◌^◌, ◌<◌, true, List, [], ◌∷◌, ◌⊎◌, inl, inr, Some, None, Option, refl, sym, ◌∙◌, append_assoc, arith}
 use Rattle.std.specs.Str.Parse.{IsNumeral, digits_value, without_leading_plus}
 use Rattle.std.specs.Str.{all_ascii_digits}
 use Rattle.std.proofs.lemmas.Str.Parse.{IsNumeralModel, numerals_by_value, tells_all_ascii_digits}
@@ -30,8 +30,8 @@ pub number_cases : (bits : ℕ) (word : List ℕ) → ReadOrNone bits (without_l
 unfolding number_in
 number_cases bits word = digits_cases bits (without_leading_plus word)
 
--- what the loops need of each word and of the end
-pub ruleset words_read = (word_taken, no_word_left, number_cases)
+-- what the loop over prices needs of each word
+pub ruleset price_taken = (word_taken, number_cases, append_assoc)
 
--- and of the prices read before
-pub ruleset prices_read = (words_read, append_assoc, append-nil)
+-- what the loop over marks needs of each word and of the end
+pub ruleset places_taken = (word_taken, no_word_left, number_cases)

@@ -8,7 +8,7 @@ use measure::Sum;
 use std::alloc::{AllocError, Global};
 
 // The prices that a text writes.
-#[tactic(auto, using(crate::proofs::Numerals::prices_read))]
+#[tactic(auto, using(crate::proofs::Numerals::price_taken))]
 pub fn prices_in(heap: Global, text: &str) -> Result<Option<Vec<Sum>>, AllocError>
     ensures { IfOk result (λ o. option_map vec_items o ≡ prices_in text.now) }
 {
@@ -23,7 +23,7 @@ pub fn prices_in(heap: Global, text: &str) -> Result<Option<Vec<Sum>>, AllocErro
 }
 
 // The marks at the places that a text writes, and at no others.
-#[tactic(auto, using(crate::proofs::Numerals::words_read))]
+#[tactic(auto, using(crate::proofs::Numerals::places_taken))]
 pub fn marks_in(text: &str) -> Option<Marks>
     ensures { option_map (λ m. m.marks) result ≡ marks_in text.now }
 {
