@@ -19,6 +19,7 @@ pub struct Report {
     pub table: Quotes,
 }
 
+// Not a Result, which would stand within an Option within another Result.
 #[derive(Clone, Copy)]
 pub enum Reply {
     // The word of the line, priced.
@@ -99,7 +100,7 @@ impl Desk {
             Ok(word) => Reply::Priced {
                 report: self.report(&word.numbers[..line.len()]),
             },
-            Err(place) => Reply::NoWord { place },
+            Err(e) => Reply::NoWord { place: e.place },
         }
     }
 

@@ -50,7 +50,7 @@ pub(super) struct Overlay {
 impl Overlay {
     // A word of letter numbers under a channel, with marked places erased, with letters shifted, and with both.
     fn quote<C: Channel + Copy>(&self, channel: &C, word: &[u8]) -> Quote<C::Measure>
-        ensures { Quoted C.Measure.Measure.scale (C.Channel.prices channel.now) self.now.marks.marks self.now.shifts.numbers word.now result }
+        ensures { Quoted C.Measure.scale (C.prices channel.now) self.now.marks.marks self.now.shifts.numbers word.now result }
     {
         let erased = Erased::new(*channel, self.marks);
         let shifted = Shifted::new(*channel, self.shifts);
@@ -69,7 +69,7 @@ impl Overlay {
         channel: &C,
         word: &[u8],
     ) -> Quotes
-        ensures { Both (C.Channel.prices channel.now) self.now.marks.marks self.now.shifts.numbers word.now result }
+        ensures { Both (C.prices channel.now) self.now.marks.marks self.now.shifts.numbers word.now result }
     {
         Quotes {
             places: channel.priced(),
