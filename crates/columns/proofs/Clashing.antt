@@ -1,5 +1,5 @@
 -- The rows that clash with a letter and with a word, as bits. Assumes nothing.
-use Rattle.std.proofs.Common.{◌≡◌, ℕ, zero, suc, ◌+◌, ◌/◌, ◌^◌, ◌<◌, Bool, List, [], ◌∷◌, ◌++◌, map, length, get_or, take, sym, refl, ap, ◌∙◌, ap₂, div-one, arith, pow_pos}
+use Rattle.std.proofs.Common.{◌≡◌, ℕ, zero, suc, ◌+◌, ◌/◌, ◌^◌, ◌<◌, ◌≤◌, Bool, List, [], ◌∷◌, ◌++◌, map, length, get_or, take, sym, refl, ap, ◌∙◌, ap₂, div-one, arith, pow_pos}
 use lib.Bits.{bit_xor, xor_assoc, xor_zero_r}
 use Rattle.std.proofs.lemmas.Nat.{xor_lt}
 use Rattle.pauli.specs.declared.letter.Letter.{Letter}
@@ -101,9 +101,12 @@ clashes_push (a ∷ w) (d ∷ cols) e c h =
     ap (bit_xor (against a d)) (clashes_push w cols e c (omega arith)) ∙ sym (xor_assoc (against a d) (clashes w cols) (against e c))
 
 -- columns past the word's last place do not count
-pub clashes-take : (w : Word) (cols : List Column) → clashes w (take (length w) cols) ≡ clashes w cols
+pub clashes-take : (n : ℕ) (w : Word) (cols : List Column) → length w ≤ n → clashes w (take n cols) ≡ clashes w cols
 unfolding clashes
-clashes-take [] [] = refl
-clashes-take [] (c ∷ cols) = refl
-clashes-take (e ∷ w) [] = refl
-clashes-take (e ∷ w) (c ∷ cols) = ap (bit_xor (against e c)) (clashes-take w cols)
+clashes-take zero [] [] h = refl
+clashes-take zero [] (c ∷ cols) h = refl
+clashes-take zero (e ∷ w) cols h = absurd (omega arith)
+clashes-take (suc n) [] [] h = refl
+clashes-take (suc n) [] (c ∷ cols) h = refl
+clashes-take (suc n) (e ∷ w) [] h = refl
+clashes-take (suc n) (e ∷ w) (c ∷ cols) h = ap (bit_xor (against e c)) (clashes-take n w cols (omega arith))
