@@ -3,4 +3,5 @@ pub mod Telling
 pub mod Marking
 pub mod Clashing
 pub mod Digits
+pub mod Comparing
 mod Steps
