@@ -1,9 +1,9 @@
 -- That the derived comparison of tables is right. Assumes nothing.
 use Rattle.std.proofs.Common.{◌≡◌, ℕ, eqb, ◌&&◌, List, Decides, ap, ap₂}
-use lib.Pointwise.{pointwise}
 use Rattle.std.specs.Cmp.{unsigned_Decides, first_so, second_so}
 use Rattle.std.specs.Cmp.Lexicographic.{pointwise_decides}
 use Rattle.columns.specs.declared.column.Column.{Column}
+use Rattle.columns.specs.Columns.{same_columns}
 
 -- the test of two columns is right
 column-decides : (c d : Column) → Decides (eqb c.x d.x && eqb c.z d.z) (c ≡ d)
@@ -15,5 +15,5 @@ column-decides c d =
     )
 
 -- the test of two tables is right
-pub columns-decides : (a b : List Column) → Decides (pointwise (λ (c d : Column). eqb c.x d.x && eqb c.z d.z) a b) (a ≡ b)
-columns-decides a b = pointwise_decides column-decides a b
+pub same_columns-decides : (a b : List Column) → Decides (same_columns a b) (a ≡ b)
+same_columns-decides a b = pointwise_decides column-decides a b

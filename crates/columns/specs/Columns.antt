@@ -1,6 +1,7 @@
 -- Rows kept by columns: at each place the set of rows that clash there with X, and the set that clash with Z.
 -- A set of rows is a mask whose bit j stands for row j, from 0. Assumes nothing.
-use Rattle.std.specs.Prelude.{ℕ, zero, suc, ◌^◌, ◌<◌, Bool, true, false, cond, List, [], ◌∷◌, map, bit_xor, slice_index_or}
+use Rattle.std.specs.Prelude.{ℕ, zero, suc, ◌^◌, ◌<◌, Bool, true, false, cond, ◌&&◌, List, [], ◌∷◌, map, bit_xor, ◌==◌, slice_index_or}
+use Rattle.std.specs.Cmp.Lexicographic.{pointwise}
 use Rattle.pauli.specs.declared.letter.Letter.{Letter}
 use Rattle.pauli.specs.declared.letter.Letter.TheVariants.{I, X, Y, Z}
 use Rattle.pauli.specs.Letters.{clash}
@@ -59,6 +60,10 @@ unfoldable pub with_row : ℕ → Word → List Column → List Column
 with_row j [] columns = columns
 with_row j (e ∷ w) [] = []
 with_row j (e ∷ w) (c ∷ columns) = marked j e c ∷ with_row j w columns
+
+-- whether two tables have the same columns, place by place
+abbrev pub same_columns : List Column → List Column → Bool
+same_columns a b = pointwise (λ c d. (c.x == d.x) && (c.z == d.z)) a b
 
 -- no row has a letter
 abbrev pub hollow : Column
