@@ -108,9 +108,9 @@ module _ (self : Code) where
       → odd ≡ set_of (syndrome (rows_of self) (letters_of ns))
   odd_set ns odd l e =
       let w : Word = letters_of ns in
+      let short : length w ≤ self.places = omega (arith, length-map ns letter) in
       e
-      ∙ sym (clashes-take w self.columns.table)
-      ∙ ap (λ n. clashes w (take n self.columns.table)) (length-map ns letter ∙ l)
+      ∙ sym (clashes-take self.places w self.columns.table short)
       ∙ sym (set_bits self.rows (clashes w columns) (clashes_below self.rows w columns columns-within))
       ∙ ap set_of (clashes-syndrome self.rows w columns)
 

@@ -1,11 +1,11 @@
 -- That codes compare as their places and rows do. Assumes nothing.
-use Rattle.std.proofs.Common.{◌≡◌, Bool, true, false, ◌&&◌, List, ◌≢◌, sym, ap, ◌∙◌, ap₂}
-use Rattle.std.specs.Prelude.{◌==◌}
+use Rattle.std.proofs.Common.{◌≡◌, Bool, true, false, ◌&&◌, ◌≢◌, sym, ap, ◌∙◌, ap₂}
 use Rattle.std.specs.Bool.{Decides, one_answer}
 use Rattle.std.specs.Cmp.{unsigned_Decides, first_so, second_so}
-use Rattle.std.specs.Cmp.Lexicographic.{pointwise, pointwise_decides}
-use Rattle.columns.specs.declared.column.Column.{Column}
-use Rattle.code.proofs.Canonical.{same_column, rows_by_table, same-places-rows, rows_number}
+use Rattle.std.specs.Cmp.Lexicographic.{pointwise_decides}
+use Rattle.columns.specs.Columns.{same_columns}
+use Rattle.columns.proofs.Comparing.{same_columns-decides}
+use Rattle.code.proofs.Canonical.{rows_by_table, same-places-rows, rows_number}
 use mathlib.Core.Bool.{false≢true}
 use Rattle.pauli.specs.declared.letter.Letter.{Letter}
 use Rattle.pauli.specs.Letters.{number, letter, same}
@@ -19,18 +19,6 @@ same-decides a b = (
   λ e. sym (letter-number a) ∙ (ap letter ((unsigned_Decides (number a) (number b)).0 e) ∙ letter-number b),
   λ e. (unsigned_Decides (number a) (number b)).1 (ap number e),
 )
-
--- the derived test of two columns is right, and so that of two tables
-column-decides : (c d : Column) → Decides ((c.x == d.x) && (c.z == d.z)) (c ≡ d)
-column-decides c d =
-    let x = unsigned_Decides c.x d.x in
-    let z = unsigned_Decides c.z d.z in (
-      λ e. same_column c d (x.0 (first_so _ _ e)) (z.0 (second_so _ _ e)),
-      λ e. ap₂ ◌&&◌ (x.1 (ap (λ (k : Column). k.x) e)) (z.1 (ap (λ (k : Column). k.z) e)),
-    )
-
-tables-decide : (a b : List Column) → Decides (pointwise (λ c d. (c.x == d.x) && (c.z == d.z)) a b) (a ≡ b)
-tables-decide a b = pointwise_decides column-decides a b
 
 -- the test of two codes is right
 same_code-decides : (a b : Code) → Decides (same_code a b) ((places_of a ≡ places_of b) × (rows_of a ≡ rows_of b))
@@ -58,10 +46,10 @@ module _ (a b : Code) where
 
   -- where the sizes are the same, the tables decide
   module _ (r : Bool) (p : a.places ≡ b.places) (q : a.rows ≡ b.rows)
-      (e : r ≡ pointwise (λ (c d : Column). (c.x == d.x) && (c.z == d.z)) a.columns.table b.columns.table) where
+      (e : r ≡ same_columns a.columns.table b.columns.table) where
     decided : Decides r Same
     decided =
-        let t = rw (← e) at (tables-decide a.columns.table b.columns.table) in
+        let t = rw (← e) at (same_columns-decides a.columns.table b.columns.table) in
         (λ h. (p, rows_by_table a b p q (t.0 h)), λ h. t.1 (same-places-rows a b p q h.1))
 
     pub tables_told : r ≡ same_code a b
