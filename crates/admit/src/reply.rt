@@ -28,7 +28,7 @@ impl From<Refusal> for Fault {
     ghost from_gives = { λ e r. r ≡ Refused e };
 
     fn from(refusal: Refusal) -> Fault {
-        Fault::Refused { refusal }
+        Self::Refused { refusal }
     }
 }
 
