@@ -1,6 +1,5 @@
 -- What one turn of reading a text does, and what was read at its end. Assumes nothing.
-use Rattle.std.proofs.Common.{◌≡◌, ℕ, suc, ◌+◌, ◌-◌, ◌<◌, ◌≤◌, true, false, cond, List, [], ◌∷◌, ◌++◌, map, length, get_or, take, drop, set, replicate, Some, None, Option, unwrap_or, sym, refl, ap, ◌∙◌, subst, ap₂, append_assoc, arith}
-use Rattle.std.specs.Option.{option_map}
+use Rattle.std.proofs.Common.{◌≡◌, ℕ, suc, ◌+◌, ◌-◌, ◌<◌, ◌≤◌, cond, List, [], ◌∷◌, ◌++◌, map, length, get_or, take, drop, set, replicate, Some, None, unwrap_or, sym, refl, ap, ◌∙◌, subst, ap₂, append_assoc, arith}
 use Rattle.std.proofs.lemmas.List.{take_more, take_all, map-append, map_push, take-append-drop, drop_more, length-map, length_push, length-take-le, take_at, set_at}
 use Rattle.std.proofs.lemmas.Bool.{le-leb}
 use Rattle.pauli.specs.declared.letter.Letter.{Letter}
@@ -10,14 +9,6 @@ use Rattle.pauli.specs.Limits.{max_places}
 use Rattle.pauli.specs.Text.{first, is_fault, fault, word_of, named, unread, letters_of, padded, numbers_of, Read}
 use Rattle.pauli.proofs.LetterLaws.{letter-number}
 use Rattle.pauli.proofs.Firsts.{first_push_false, first-at}
-
-fault-of : (o : Option Letter) → None ≡ option_map number o → unread o ≡ true
-fault-of None h = refl
-fault-of (Some e) h = absurd cc
-
-read_of : (o : Option Letter) (n : ℕ) → Some n ≡ option_map number o → (unread o ≡ false) × (number (unwrap_or o I) ≡ n)
-read_of None n h = absurd cc
-read_of (Some e) n h = (refl, cc)
 
 -- a text that is not too long has its fault at the first byte that is no letter
 pub fault_short : (text : List ℕ) → length text ≤ max_places → fault text ≡ first (map is_fault text)
@@ -42,31 +33,31 @@ module _ (front ns : List ℕ) (b : ℕ) (r : Read front ns) where
   none : length front ≤ max_places → first (map is_fault front) ≡ None
   none h = sym (fault_short front h) ∙ r.none
 
-  push : (n : ℕ) → length front < max_places → Some n ≡ option_map number (named b) → Read (front ++ b ∷ []) (set ns (length front) n)
-  push n h e =
+  push : (a : Letter) → length front < max_places → named b ≡ Some a → Read (front ++ b ∷ []) (set ns (length front) (number a))
+  push a h e =
       let l = length_push front b in
       let m = length-read front in
       record {
         none =
             fault_short (front ++ b ∷ []) (omega arith)
             ∙ ap first (map_push is_fault front b)
-            ∙ ap (λ k. first (map is_fault front ++ k ∷ [])) (read_of (named b) n e).0
+            ∙ ap (λ o. first (map is_fault front ++ unread o ∷ [])) e
             ∙ first_push_false (map is_fault front) (none (omega arith));
         numbers_are =
-            ap₂ (λ ys i. set ys i n) r.numbers_are (sym m)
-            ∙ put_next (map number (word_of front)) n (omega arith)
+            ap₂ (λ ys i. set ys i (number a)) r.numbers_are (sym m)
+            ∙ put_next (map number (word_of front)) (number a) (omega arith)
             ∙ ap padded
-            (ap (λ k. map number (word_of front) ++ k ∷ []) (sym (read_of (named b) n e).1)
+            (ap (λ o. map number (word_of front) ++ number (unwrap_or o I) ∷ []) (sym e)
             ∙ sym (map_push number (word_of front) (unwrap_or (named b) I))
             ∙ ap (map number) (sym (map_push (λ c. unwrap_or (named c) I) front b)));
       }
 
-  stop : (rest : List ℕ) → length front ≤ max_places → length (front ++ b ∷ rest) ≤ max_places → None ≡ option_map number (named b)
+  stop : (rest : List ℕ) → length front ≤ max_places → length (front ++ b ∷ rest) ≤ max_places → named b ≡ None
       → fault (front ++ b ∷ rest) ≡ Some (length front + 1)
   stop rest h k e =
       fault_short (front ++ b ∷ rest) k
       ∙ ap first (map-append is_fault front (b ∷ rest))
-      ∙ ap (λ t. first (map is_fault front ++ t ∷ map is_fault rest)) (fault-of (named b) e)
+      ∙ ap (λ o. first (map is_fault front ++ unread o ∷ map is_fault rest)) e
       ∙ first-at (map is_fault front) (map is_fault rest) (none h)
       ∙ ap (λ i. Some (i + 1)) (length-map front is_fault)
 
@@ -77,35 +68,19 @@ unfoldable pub Spelling : List ℕ → ℕ → List ℕ → Type 0
 Spelling text i ns = Read (take i text) ns
 
 -- a turn at a letter
-abbrev pub OneMore : Type 0
-OneMore =
-    (text ns : List ℕ) (i n : ℕ) → Spelling text i ns → i < length text → length text ≤ max_places
-    → Some n ≡ option_map number (named (get_or text i 0)) → Spelling text (i + 1) (set ns i n)
-
--- a turn at a byte that is no letter
-abbrev pub NoLetter : Type 0
-NoLetter =
-    (text ns : List ℕ) (i : ℕ) → Spelling text i ns → i < length text → length text ≤ max_places
-    → None ≡ option_map number (named (get_or text i 0)) → fault text ≡ Some (i + 1)
-
--- the end
-abbrev pub AllRead : Type 0
-AllRead = (text ns : List ℕ) (i : ℕ) → Spelling text i ns → length text ≤ i → Read text ns
-
--- what the loop's invariant carries, for Rattle's own search to close each turn
-abbrev pub ReadingLaws : Type 0
-ReadingLaws = OneMore × NoLetter × AllRead
-
-one_more : OneMore
+pub one_more : (text ns : List ℕ) (i : ℕ) (a : Letter) → Spelling text i ns → i < length text → length text ≤ max_places
+    → named (get_or text i 0) ≡ Some a → Spelling text (i + 1) (set ns i (number a))
 unfolding Spelling
-one_more text ns i n r h k e =
+one_more text ns i a r h k e =
     let front : List ℕ = take i text in
     let b : ℕ = get_or text i 0 in
     let l : length front ≡ i = length-take-le i text (omega arith) in
-    subst (λ ys. Read ys (set ns i n)) (sym (take_more text i 0 h))
-    (subst (λ j. Read (front ++ b ∷ []) (set ns j n)) l (push front ns b r n (omega arith) e))
+    subst (λ ys. Read ys (set ns i (number a))) (sym (take_more text i 0 h))
+    (subst (λ j. Read (front ++ b ∷ []) (set ns j (number a))) l (push front ns b r a (omega arith) e))
 
-no_letter : NoLetter
+-- a turn at a byte that is no letter
+pub no_letter : (text ns : List ℕ) (i : ℕ) → Spelling text i ns → i < length text → length text ≤ max_places
+    → named (get_or text i 0) ≡ None → fault text ≡ Some (i + 1)
 unfolding Spelling
 no_letter text ns i r h k e =
     let front : List ℕ = take i text in
@@ -116,13 +91,12 @@ no_letter text ns i r h k e =
     let few : length (front ++ b ∷ rest) ≤ max_places = subst (λ ys. length ys ≤ max_places) (sym whole) k in
     ap fault (sym whole) ∙ stop front ns b r rest (omega arith) few e ∙ ap (λ j. Some (j + 1)) l
 
-all_read : AllRead
+-- the end
+pub all_read : (text ns : List ℕ) (i : ℕ) → Spelling text i ns → length text ≤ i → Read text ns
 unfolding Spelling
 all_read text ns i r h = subst (λ ys. Read ys ns) (take_all i text h) r
 
-pub reading_laws : ReadingLaws
-reading_laws = (one_more, no_letter, all_read)
-
+-- the beginning
 pub none_read : (text ns : List ℕ) → ns ≡ replicate max_places 0 → Spelling text 0 ns
 unfolding Spelling
 none_read text ns e = record { none = refl; numbers_are = e }

@@ -14,6 +14,7 @@ pub struct NoWord {
 }
 
 // The letters of a text that is not too long, or the place of the first byte that is no letter.
+#[tactic(auto, using(crate::proofs::Reading::none_read, crate::proofs::Reading::one_more, crate::proofs::Reading::no_letter, crate::proofs::Reading::all_read))]
 fn spell(text: &[u8]) -> Result<Letters, NoWord>
     requires { length text.now ≤ max_places }
     ensures { Reading text.now result }
