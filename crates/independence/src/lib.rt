@@ -5,11 +5,13 @@ ghost use Rattle.independence.specs.Independence.{Explained};
 ghost use Rattle.independence.specs.Pivots.{SumsDecided};
 
 // Independent rows explain every syndrome.
+#[tactic(auto, using(crate::proofs::Independence::explained))]
 pub fn syndromes_explained()
     ensures { Explained }
 {}
 
 // Elimination decides whether a word is a sum of rows, and which.
+#[tactic(auto, using(crate::proofs::Pivots::sums_decided))]
 pub fn sums_decided()
     ensures { SumsDecided }
 {}
