@@ -125,7 +125,9 @@ fn refused<F: FnOnce(&mut Code) -> Result<(), Refusal>>(
     rt: &impl Abort,
     code: &mut Code,
     call: F,
-) -> Result<(u8, usize), Fail> {
+) -> Result<(u8, usize), Fail>
+    requires { F.IsAlwaysCallable call }
+{
     let before = *code;
     let Err(refusal) = call(code) else {
         return Err(Fail::new("the call was accepted"));
