@@ -104,15 +104,16 @@ module _ (self : Code) where
   narrow : (ks : List Bool) → select (length columns) ks (rows max_rows columns) ≡ select self.places ks (rows_of self)
   narrow ks = rows-within self.rows ks columns self.room columns-within ∙ ap (λ m. select m ks (rows_of self)) length-columns
 
+  -- the rows that clash with a word in the columns that are used
+  odd_columns : (w : Word) → clashes w columns ≡ set_of (syndrome (rows_of self) w)
+  odd_columns w = sym (set_bits self.rows (clashes w columns) (clashes_below self.rows w columns columns-within)) ∙ ap set_of (clashes-syndrome self.rows w columns)
+
   pub odd_set : (ns : List ℕ) (odd : ℕ) → length ns ≡ self.places → odd ≡ clashes (letters_of ns) self.columns.table
       → odd ≡ set_of (syndrome (rows_of self) (letters_of ns))
   odd_set ns odd l e =
       let w : Word = letters_of ns in
       let short : length w ≤ self.places = omega (arith, length-map ns letter) in
-      e
-      ∙ sym (clashes-take self.places w self.columns.table short)
-      ∙ sym (set_bits self.rows (clashes w columns) (clashes_below self.rows w columns columns-within))
-      ∙ ap set_of (clashes-syndrome self.rows w columns)
+      e ∙ sym (clashes-take self.places w self.columns.table short) ∙ odd_columns w
 
   pub odd_few : (w : Word) → length (syndrome (rows_of self) w) ≤ max_rows
   odd_few w = omega (arith, length-syndrome (rows_of self) w, rows_few)

@@ -95,13 +95,7 @@ fn every_syndrome_of_the_five_place_code_is_explained(rt: HostRuntime) -> Result
     let code = five()?;
     let mut seen = 0u64;
     for error in 0..1024u16 {
-        let text = [
-            letter_byte((error & 3) as u8),
-            letter_byte((error >> 2 & 3) as u8),
-            letter_byte((error >> 4 & 3) as u8),
-            letter_byte((error >> 6 & 3) as u8),
-            letter_byte((error >> 8 & 3) as u8),
-        ];
+        let text = [0, 2, 4, 6, 8].map(|k| letter_byte((error >> k & 3) as u8));
         seen |= 1u64 << (syndrome_number(&code, &text)? & 15);
     }
     assert_eq!(rt; seen, 0xffff);
@@ -206,7 +200,7 @@ fn the_first_row_is_not_blank(rt: HostRuntime) -> Result<(), Fail> {
 
 // Whether a refusal says that the row clashes or is a sum.
 fn clash_or_sum(refusal: Refusal) -> bool {
-    refusal.number() == 5 || refusal.number() == 6
+    matches!(refusal, Refusal::Clash { .. } | Refusal::Sum { .. })
 }
 
 #[test]

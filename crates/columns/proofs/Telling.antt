@@ -1,10 +1,12 @@
 -- Letters told by whether they clash with X and with Z, and a mask read bit by bit. Assumes nothing.
-use Rattle.std.proofs.Common.{◌≡◌, ℕ, suc, ◌/◌, ◌^◌, Bool, true, false, refl, ap, ◌∙◌, add-one}
+use Rattle.std.proofs.Common.{◌≡◌, ℕ, suc, ◌/◌, ◌^◌, Bool, true, false, eqb, refl, ap, ◌∙◌, add-one}
+use lib.Bits.{bit_and, and_mask}
 use Rattle.std.proofs.lemmas.Nat.{shr-shr}
 use Rattle.pauli.specs.declared.letter.Letter.{Letter}
 use Rattle.pauli.specs.declared.letter.Letter.TheVariants.{I, X, Y, Z}
 use Rattle.pauli.specs.Letters.{clash, plus}
 use Rattle.pauli.specs.Words.{xor}
+use Rattle.columns.specs.Masks.{bit}
 use Rattle.columns.specs.Columns.{told}
 
 pub told-plus : (a b c d : Bool) → plus (told a b) (told c d) ≡ told (xor a c) (xor b d)
@@ -57,3 +59,6 @@ clash-told-I false false = refl
 
 pub shift : (m j : ℕ) → m / 2 ^ j / 2 ≡ m / 2 ^ suc j
 shift m j = shr-shr m j 1 ∙ ap (λ (n : ℕ). m / 2 ^ n) (add-one j)
+
+pub read-bit : (j n : ℕ) → eqb (bit_and (n / 2 ^ j) 1) 1 ≡ bit j n
+read-bit j n = ap (λ k. eqb k 1) (and_mask (n / 2 ^ j) 1)

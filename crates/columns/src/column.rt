@@ -1,6 +1,7 @@
 // A place of the rows: which of them clash there with X, and which with Z.
 ghost use Rattle.std.specs.Prelude.{◌≡◌, ◌<◌};
 ghost use Rattle.pauli.specs.Limits.{max_rows};
+ghost use Rattle.pauli.specs.Letters.{letter};
 ghost use Rattle.columns.specs.Columns.{against, letter_in, marked};
 
 use crate::mask::has;
@@ -13,11 +14,11 @@ pub struct Column {
 }
 
 impl Column {
-    // The rows that clash with a letter.
-    pub fn against(&self, letter: Letter) -> u64
-        ensures { result ≡ against letter self.now }
+    // The rows that clash with a letter, by its number, as tables hold letters.
+    pub fn against(&self, number: u8) -> u64
+        ensures { result ≡ against (letter number) self.now }
     {
-        match letter {
+        match Letter::of(number) {
             Letter::I => 0,
             Letter::X => self.x,
             Letter::Y => self.x ^ self.z,
@@ -37,11 +38,12 @@ impl Column {
         }
     }
 
-    // Puts a letter into a row that has I.
-    pub fn mark(&mut self, row: usize, letter: Letter)
+    // Puts a letter, by its number, into a row that has I.
+    pub fn mark(&mut self, row: usize, number: u8)
         requires { row < max_rows }
-        ensures { self.new ≡ marked row letter self.old }
+        ensures { self.new ≡ marked row (letter number) self.old }
     {
+        let letter = Letter::of(number);
         let bit = 1u64 << row;
         if letter.clashes(Letter::X) {
             self.x ^= bit;

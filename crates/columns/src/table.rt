@@ -5,7 +5,7 @@ ghost use Rattle.pauli.specs.Text.{letters_of};
 ghost use Rattle.columns.specs.Columns.{clashes, with_row, hollow};
 
 use crate::column::Column;
-use pauli::{Letter, MAX_PLACES};
+use pauli::MAX_PLACES;
 
 #[derive(Clone, Copy, PartialEq, Eq)]
 pub struct Columns {
@@ -28,9 +28,9 @@ impl Columns {
         requires { (row < max_rows) × (length word.now ≤ max_places) }
         ensures { self.new.table ≡ with_row row (letters_of word.now) self.old.table }
     {
-        // By index: after a zip over columns that are lent to be written, nothing is known of the table.
+        // By index: tried with a zip, and after one over columns that are lent to be written a proof knows nothing of the table.
         for (i, number) in word.iter().enumerate() {
-            self.table[i].mark(row, Letter::of(*number));
+            self.table[i].mark(row, *number);
         }
     }
 
@@ -41,7 +41,7 @@ impl Columns {
     {
         let mut odd = 0;
         for (column, number) in self.table.iter().zip(word) {
-            odd ^= column.against(Letter::of(*number));
+            odd ^= column.against(*number);
         }
         odd
     }

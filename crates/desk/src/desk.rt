@@ -2,7 +2,7 @@
 ghost use Rattle.desk.specs.Reports.{Reported, WordReply};
 ghost use Rattle.std.specs.Prelude.{◌≡◌};
 ghost use Rattle.desk.specs.Settings.{NewDesk, answered, FlatLine, TableLine, MarksLine, ShiftsLine, Line};
-ghost use Rattle.desk.specs.declared.desk.NotSet.TheVariants.{NoMemory};
+ghost use Rattle.desk.specs.declared.desk.NotSet.TheVariants.{NotRead, NoMemory};
 
 use super::line::{Kind, parted};
 use super::report::{Overlay, Quotes};
@@ -10,7 +10,7 @@ use channel::{Flat, Table};
 use layers::Marks;
 use measure::Sum;
 use numerals::{marks_in, prices_in};
-use pauli::{Letters, read_word};
+use pauli::{Letters, NoWord, read_word};
 use std::alloc::{AllocError, Global};
 
 #[derive(Clone, Copy)]
@@ -19,7 +19,8 @@ pub struct Report {
     pub table: Quotes,
 }
 
-// Not a Result, which would stand within an Option within another Result.
+// Not a Result: each of these is printed, and a lack of memory, which is not, ends the program; as cases of one error they would have to be
+// taken apart again.
 #[derive(Clone, Copy)]
 pub enum Reply {
     // The word of the line, priced.
@@ -38,6 +39,14 @@ enum NotSet {
     NoMemory { error: AllocError },
 }
 
+impl From<NoWord> for NotSet {
+    ghost from_gives = { λ _ r. r ≡ NotRead };
+
+    fn from(_error: NoWord) -> NotSet {
+        NotSet::NotRead
+    }
+}
+
 impl From<AllocError> for NotSet {
     ghost from_gives = { λ error r. r ≡ NoMemory error };
 
@@ -46,7 +55,7 @@ impl From<AllocError> for NotSet {
     }
 }
 
-// What a setting is answered: nothing where it was taken.
+// What a setting is answered, in the one place that takes a lack of memory apart from a setting that was not read.
 fn answered(set: Result<(), NotSet>) -> Result<Option<Reply>, AllocError>
     ensures { result ≡ answered set }
 {
@@ -133,7 +142,7 @@ impl Desk {
     fn set_shifts(&mut self, text: &str) -> Result<(), NotSet>
         ensures { ShiftsLine text.now self.old (answered result) self.new }
     {
-        self.overlay.shifts = read_word(text.as_bytes()).map_err(|_| NotSet::NotRead)?;
+        self.overlay.shifts = read_word(text.as_bytes())?;
         Ok(())
     }
 

@@ -48,6 +48,8 @@ pub(super) struct Overlay {
 }
 
 impl Overlay {
+    // The channel and the word are the caller's, and neither owns the other, so they are handed in side by side.
+
     // A word of letter numbers under a channel, with marked places erased, with letters shifted, and with both.
     fn quote<C: Channel + Copy>(&self, channel: &C, word: &[u8]) -> Quote<C::Measure>
         ensures { Quoted C.Measure.scale (C.prices channel.now) self.now.marks.marks self.now.shifts.numbers word.now result }

@@ -36,7 +36,7 @@ impl System {
         ensures { Took self.old.equations equation.mask equation.odd self.new.equations (is_some result) }
     {
         let mut rest = equation;
-        // Lent for reading: of an equation that is lent to be written, the proof does not see that it stays as it was.
+        // Lent for reading: tried with iter_mut, and of an equation that is lent to be written, the proof does not see that it stays as it was.
         for (j, known) in self.equations.iter().enumerate() {
             if !has(rest.mask, j) {
                 continue;
@@ -71,7 +71,7 @@ impl System {
         ensures { Holds (bits max_rows result) self.now.equations }
     {
         let mut unknowns: u64 = 0;
-        // By index: of an enumeration from its back, the proof does not see which equation a turn has.
+        // By index: tried with an enumeration, and of one from its back the proof does not see which equation a turn has.
         for j in (0..MAX_ROWS).rev() {
             if !self.equations[j].is_met_by(unknowns) {
                 unknowns ^= 1 << j;

@@ -13,7 +13,7 @@ pub struct Erased<C> {
 }
 
 impl<C: Channel> Erased<C> {
-    // The channel below, but for the marked places.
+    // The channel below, but for the marked places. What is handed in is what is kept, as in each constructor of a layer.
     pub fn new(below: C, marks: Marks) -> Erased<C>
         ensures below { result.below ≡ below }
         ensures marks { result.marks ≡ marks }

@@ -31,7 +31,6 @@ impl<C: Channel<Measure = Sum>> Channel for WorstOf<C> {
     }
 
     fn price(&self, place: usize, letter: u8) -> Worst {
-        let Sum(price) = self.below.price(place, letter);
-        Worst(price)
+        Worst::from(self.below.price(place, letter))
     }
 }

@@ -1,10 +1,11 @@
-// The largest of all prices.
-ghost use Rattle.measure.specs.Measures.{worsts};
+// The largest of all prices. It and Sum are instances of one trait with its laws, and no twins: they differ in what joining does.
+ghost use Rattle.measure.specs.Measures.{worsts, as_worst};
 ghost use Rattle.std.proofs.Common.{rules};
-ghost use Rattle.std.specs.Prelude.{Some};
+ghost use Rattle.std.specs.Prelude.{◌≡◌, Some};
 ghost use Rattle.std.specs.Fmt.{decimal};
 
 use super::scale::Measure;
+use super::sum::Sum;
 use std::fmt;
 
 #[derive(Clone, Copy, PartialEq, Eq, PartialOrd, Ord, Debug)]
@@ -28,7 +29,16 @@ impl Measure for Worst {
     }
 }
 
-// The number, in decimal digits.
+// The same number, of which then only the largest counts.
+impl From<Sum> for Worst {
+    ghost from_gives = { λ sum worst. worst ≡ as_worst sum.0 };
+
+    fn from(sum: Sum) -> Worst {
+        Worst(sum.0)
+    }
+}
+
+// The number, in decimal digits: each measure writes its own, so Sum and Worst each say so.
 impl fmt::Display for Worst {
     ghost output = { λ m. Some (decimal m.0) };
 

@@ -20,6 +20,7 @@ fn spell(text: &[u8]) -> Result<Letters, NoWord>
     ensures { Reading text.now result }
 {
     let mut word = Letters::blank();
+    // By index: tried with a zip, and after one over what is lent to be written a proof knows nothing of what was written.
     for (i, byte) in text.iter().enumerate() {
         let letter = Letter::named(*byte).ok_or(NoWord { place: i + 1 })?;
         word.numbers[i] = letter.number();
@@ -47,6 +48,7 @@ pub fn write_word(word: &Letters, output: &mut [u8])
         → Read output.new (padded (take (length output.old) word.now.numbers)) }
 {
     let room = output.len().min(MAX_PLACES);
+    // By index, for the same reason.
     for (i, byte) in output[..room].iter_mut().enumerate() {
         *byte = Letter::of(word.numbers[i]).byte();
     }

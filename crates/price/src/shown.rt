@@ -1,4 +1,4 @@
-// Replies as text. How lines are laid out is up to the program, so it is written on types of its own.
+// Replies as text. How a reply is laid out in lines is up to the program, so it is written on types of its own; a quote is one line and writes itself.
 use desk::{Quotes, Reply, Report};
 use std::fmt;
 

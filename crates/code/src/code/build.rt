@@ -36,7 +36,7 @@ impl Code {
     pub fn begin(&mut self, n: usize) -> Result<(), Refusal>
         ensures { Begun n self.old result self.new }
     {
-        if n == 0 || n > MAX_PLACES {
+        if !(1..=MAX_PLACES).contains(&n) {
             return Err(Refusal::Places { places: n });
         }
         *self = Code::empty(n);

@@ -34,7 +34,8 @@ impl Code {
         Ok(read_word(text)?)
     }
 
-    // The first letters of a table, as many as the code has places.
+    // The first letters of a table, as many as the code has places. A word is handed on as the whole table and cut only here: as a slice it would
+    // need its length said in the contract of each check.
     pub(super) fn front<'a>(&self, word: &'a Letters) -> &'a [u8]
         ensures letters { letters_of result.now ≡ word_in self.now word.now }
         ensures long { length result.now ≡ places_of self.now }
