@@ -95,7 +95,7 @@ fn every_syndrome_of_the_five_place_code_is_explained(rt: HostRuntime) -> Result
     let code = five()?;
     let mut seen = 0u64;
     for error in 0..1024u16 {
-        let text = [0, 2, 4, 6, 8].map(|k| letter_byte((error >> k & 3) as u8));
+        let text = [0, 2, 4, 6, 8].map(|k| letter_byte((error.wrapping_shr(k) & 3) as u8));
         seen |= 1u64 << (syndrome_number(&code, &text)? & 15);
     }
     assert_eq!(rt; seen, 0xffff);
