@@ -16,6 +16,7 @@ pub enum Stage {
     Ended,
 }
 
+// The code is built in one stage and read in the next, so the stage stands beside it, and one match says what a line is read as.
 #[derive(Clone, Copy)]
 pub struct Session {
     code: Code,

@@ -14,7 +14,8 @@ pub trait Channel {
     fn priced(&self) -> usize
         ensures { result ≡ (prices self.now).priced };
 
-    // A channel is asked by numbers, which the cards' interface fixes, and any number has an answer; so no enum stands here or in an impl.
+    // A channel is asked by numbers, which the cards' interface fixes, and any number has an answer; so no enum stands here or in an impl. A layer
+    // answers of places and their bound what the channel below says; Flat and Table each test the place beside the index that this guards.
 
     // The price of a letter number at a place; the start value at a place that is not priced, and above 3.
     fn price(&self, place: usize, letter: u8) -> Self::Measure

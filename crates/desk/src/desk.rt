@@ -107,6 +107,7 @@ impl Desk {
     {
         match read_word(line) {
             Ok(word) => Reply::Priced {
+                // The table is of fixed size, and the line's length says how much of it is used.
                 report: self.report(&word.numbers[..line.len()]),
             },
             Err(e) => Reply::NoWord { place: e.place },

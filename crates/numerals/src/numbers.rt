@@ -8,7 +8,7 @@ use measure::Sum;
 use std::alloc::{AllocError, Global};
 
 // The prices that a text writes. The heap is handed in where memory is asked for, here as everywhere. It is a loop, since a chain that collects
-// says nothing of when it fails.
+// says nothing of when it fails, and not the loop below too: this one fills memory and may run out of it.
 #[tactic(auto, using(crate::proofs::Numerals::price_taken))]
 pub fn prices_in(heap: Global, text: &str) -> Result<Option<Vec<Sum>>, AllocError>
     ensures { IfOk result (λ o. option_map vec_items o ≡ prices_in text.now) }
