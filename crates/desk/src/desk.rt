@@ -43,7 +43,7 @@ impl From<NoWord> for NotSet {
     ghost from_gives = { λ _ r. r ≡ NotRead };
 
     fn from(_error: NoWord) -> NotSet {
-        NotSet::NotRead
+        Self::NotRead
     }
 }
 
@@ -51,7 +51,7 @@ impl From<AllocError> for NotSet {
     ghost from_gives = { λ error r. r ≡ NoMemory error };
 
     fn from(error: AllocError) -> NotSet {
-        NotSet::NoMemory { error }
+        Self::NoMemory { error }
     }
 }
 
