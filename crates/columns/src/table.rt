@@ -26,7 +26,8 @@ impl Columns {
     #[tactic(auto, using(crate::proofs::Steps::put_none, crate::proofs::Steps::put_more))]
     pub fn put_row(&mut self, row: usize, word: &[u8])
         requires { (row < max_rows) × (length word.now ≤ max_places) }
-        ensures { self.new.table ≡ with_row row (letters_of word.now) self.old.table }
+        ensures after { self.new.table ≡ with_row row (letters_of word.now) self.old.table }
+        ensures long { length self.old.table ≡ max_places }
     {
         // By index: tried with a zip, and after one over columns that are lent to be written a proof knows nothing of the table.
         for (i, number) in word.iter().enumerate() {

@@ -23,7 +23,7 @@ invariant_of-self c =
     let self = c.args.self.now in
     let w = front self.places c.args.word.now.numbers in
     let t = c.put_row.new.self.table in
-    let e = as_word self c.args.word.now.numbers c.front-word.result.now t c.put_row.ensures c.front-word.ensures.letters in
+    let e = as_word self c.args.word.now.numbers c.front-word.result.now t c.put_row.ensures.after c.front-word.ensures.letters in
     record {
       some = self.some;
       few = self.few;
@@ -39,7 +39,7 @@ pub returns : goal.returns
 returns c =
     let self = c.args.self.now in
     let t = c.put_row.new.self.table in
-    let e = as_word self c.args.word.now.numbers c.front-word.result.now t c.put_row.ensures c.front-word.ensures.letters in
+    let e = as_word self c.args.word.now.numbers c.front-word.result.now t c.put_row.ensures.after c.front-word.ensures.letters in
     record {
       places = refl;
       rows = put-rows self (front self.places c.args.word.now.numbers) c.requires t e;
