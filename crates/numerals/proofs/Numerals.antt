@@ -5,7 +5,6 @@ use Rattle.std.specs.Str.{all_ascii_digits}
 use Rattle.std.proofs.lemmas.Str.Parse.{IsNumeralModel, numerals_by_value, tells_all_ascii_digits}
 use Rattle.std.proofs.lemmas.Bool.{true≢false, cond_both, and_from, and_parts, lt-ltb, ltb-true}
 use Rattle.numerals.specs.Numbers.{digits_number, number_in}
-use Rattle.numerals.proofs.Wording.{word_taken, no_word_left}
 
 own : IsNumeralModel (λ ds. all_ascii_digits ds ≡ true) (digits_value 10)
 own = numerals_by_value _ tells_all_ascii_digits
@@ -31,7 +30,7 @@ unfolding number_in
 number_cases bits word = digits_cases bits (without_leading_plus word)
 
 -- what the loop over prices needs of each word
-pub ruleset price_taken = (word_taken, number_cases, append_assoc)
+pub ruleset price_taken = (number_cases, append_assoc)
 
--- what the loop over marks needs of each word and of the end
-pub ruleset places_taken = (word_taken, no_word_left, number_cases)
+-- what the loop over marks needs of each word
+pub ruleset places_taken = (number_cases)

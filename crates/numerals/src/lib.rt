@@ -2,5 +2,6 @@
 #![tactic(auto)]
 
 mod numbers;
+mod words;
 
 pub use numbers::{marks_in, prices_in};

@@ -3,6 +3,7 @@ ghost use Rattle.std.specs.Prelude.{◌≡◌, IfOk, vec_items};
 ghost use Rattle.std.specs.Option.{option_map};
 ghost use Rattle.numerals.specs.Numbers.{prices_in, marks_in};
 
+use super::words::Words;
 use layers::Marks;
 use measure::Sum;
 use std::alloc::{AllocError, Global};
@@ -14,7 +15,7 @@ pub fn prices_in(heap: Global, text: &str) -> Result<Option<Vec<Sum>>, AllocErro
     ensures { IfOk result (λ o. option_map vec_items o ≡ prices_in text.now) }
 {
     let mut prices = Vec::new(heap);
-    for word in text.split_ascii_whitespace() {
+    for word in Words(text) {
         let Ok(price) = word.parse::<u32>() else {
             return Ok(None);
         };
@@ -29,7 +30,7 @@ pub fn marks_in(text: &str) -> Option<Marks>
     ensures { option_map (λ m. m.marks) result ≡ marks_in text.now }
 {
     let mut marks = Marks::none();
-    for word in text.split_ascii_whitespace() {
+    for word in Words(text) {
         marks.mark(word.parse::<usize>().ok()?);
     }
     Some(marks)
