@@ -1,2 +1,3 @@
 pub mod Masks
 pub mod Columns
+pub mod Lemmas

@@ -1,13 +1,15 @@
 // The table of a code: for each place the rows that clash there with X and with Z.
+ghost use Rattle.std.specs.Ordering.{on};
 ghost use Rattle.std.specs.Prelude.{◌≡◌, ◌<◌, ◌≤◌, length, replicate};
+ghost use Rattle.columns.specs.Lemmas.{same_tables-laws, same_tables-equivalence};
 ghost use Rattle.pauli.specs.Limits.{max_places, max_rows};
 ghost use Rattle.pauli.specs.Text.{letters_of};
-ghost use Rattle.columns.specs.Columns.{clashes, with_row, hollow};
+ghost use Rattle.columns.specs.Columns.{clashes, same_columns, with_row, hollow};
 
 use crate::column::Column;
 use pauli::MAX_PLACES;
 
-#[derive(Clone, Copy, PartialEq, Eq)]
+#[derive(Clone, Copy)]
 pub struct Columns {
     pub table: [Column; MAX_PLACES],
 }
@@ -46,4 +48,27 @@ impl Columns {
         }
         odd
     }
+}
+
+// By index, and not derived: the derived comparison of two arrays took twice the time.
+impl PartialEq for Columns {
+    ghost eq = { on (λ c. c.table) same_columns };
+
+    ghost laws = { same_tables-laws };
+
+    #[tactic(auto, using(crate::proofs::Comparing::other_column, crate::proofs::Comparing::all_columns))]
+    fn eq(&self, other: &Columns) -> bool
+        ensures { result ≡ same_columns self.now.table other.now.table }
+    {
+        for i in 0..MAX_PLACES {
+            if self.table[i] != other.table[i] {
+                return false;
+            }
+        }
+        true
+    }
+}
+
+impl Eq for Columns {
+    ghost laws = { same_tables-equivalence };
 }
