@@ -215,6 +215,13 @@ from_met es m j f h =
     go i k (inl e) = subst (λ (n : ℕ). Meets (bits max_rows m) (get_or es n idle).mask (get_or es n idle).odd) e h
     go i k (inr q) = f.met i (omega arith) k
 
+-- one more, which says nothing
+pub from_idle : (es : List Equation) (m j : ℕ) → From es m (j + 1) → (get_or es j idle).mask ≡ 0 → From es m j
+unfolding From
+from_idle es m j f z =
+    let w : j < max_rows = let k = f.within in omega arith in
+    from_met es m j f (idle_met (bits max_rows m) j (get_or es j idle) (f.triangular.lowest j w) z)
+
 -- an unknown below them changes nothing for them
 from_flipped : (es : List Equation) (m j k : ℕ) → From es m k → j < k → From es (bit_xor m (2 ^ j)) k
 unfolding From

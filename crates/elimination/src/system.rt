@@ -66,14 +66,16 @@ impl System {
     }
 
     // Unknowns that solve the system.
-    #[tactic(auto, using(crate::proofs::Systems::from_none, crate::proofs::Systems::from_met, crate::proofs::Systems::from_mended, crate::proofs::Systems::from_all))]
+    #[tactic(auto, using(crate::proofs::Systems::from_none, crate::proofs::Systems::from_idle, crate::proofs::Systems::from_met, crate::proofs::Systems::from_mended, crate::proofs::Systems::from_all))]
     pub fn solution(&self) -> u64
         ensures { Holds (bits max_rows result) self.now.equations }
     {
         let mut unknowns: u64 = 0;
         // By index: tried with an enumeration, and of one from its back the proof does not see which equation a turn has.
         for j in (0..MAX_ROWS).rev() {
-            if !self.equations[j].is_met_by(unknowns) {
+            let known = self.equations[j];
+            // An equation that says nothing is met, and most do where the rows are few.
+            if known.mask != 0 && !known.is_met_by(unknowns) {
                 unknowns ^= 1 << j;
             }
         }
