@@ -20,6 +20,11 @@ module _ {V E : Type 0} (join : V → V → V) (price : ℕ → E → V) where
       → join (joined_from join price v 1 (take i w)) (price (i + 1) (get_or w i x)) ≡ joined_from join price v 1 (take (i + 1) w)
   joined_take w x v i h = grind (arith, take_more w i x h, joined_append (take i w) (get_or w i x ∷ []) 1 v, length-take-le i w)
 
+-- words measure the same where their letters cost the same
+pub joined_same : {V E : Type 0} (join : V → V → V) (f g : ℕ → E → V) → ((p : ℕ) (e : E) → f p e ≡ g p e) → (w : List E) (p : ℕ) (v : V) → joined_from join f v p w ≡ joined_from join g v p w
+joined_same join f g same [] p v = refl
+joined_same join f g same (e ∷ w) p v = grind (arith, same p e, joined_same join f g same w (p + 1) (join v (g p e)))
+
 -- two words measure the same if the letters at each place cost the same
 pub joined_places : {V : Type 0} (join : V → V → V) (f g : ℕ → Letter → V) (u v : Word) (p : ℕ) (x : V)
     → length u ≡ length v → ((k : ℕ) → k < length u → f (p + k) (at k u) ≡ g (p + k) (at k v))
@@ -49,11 +54,11 @@ pub ruleset joining = (joined_take, take_all, measure_numbers)
 -- ---- the order is kept
 
 module _ {V E : Type 0} {s : Scale V} (laws : Lawful s) (price : ℕ → E → V) where
-  joined_mono : (w : List E) (p : ℕ) (a b : V) → Le s a b → Le s (joined_from s.join price a p w) (joined_from s.join price b p w)
+  pub joined_mono : (w : List E) (p : ℕ) (a b : V) → Le s a b → Le s (joined_from s.join price a p w) (joined_from s.join price b p w)
   joined_mono [] p a b h = h
   joined_mono (e ∷ w) p a b h = joined_mono w (p + 1) (s.join a (price p e)) (s.join b (price p e)) (laws.mono a b (price p e) h)
 
-  joined_keeps : (u v t : List E) → length u ≡ length v → Le s (joined_from s.join price s.start 1 u) (joined_from s.join price s.start 1 v) → Le s (joined_from s.join price s.start 1 (u ++ t)) (joined_from s.join price s.start 1 (v ++ t))
+  pub joined_keeps : (u v t : List E) → length u ≡ length v → Le s (joined_from s.join price s.start 1 u) (joined_from s.join price s.start 1 v) → Le s (joined_from s.join price s.start 1 (u ++ t)) (joined_from s.join price s.start 1 (v ++ t))
   joined_keeps u v t same h =
       rw (joined_append s.join price u t 1 s.start, joined_append s.join price v t 1 s.start, same)
       (joined_mono t (1 + length v) (joined_from s.join price s.start 1 u) (joined_from s.join price s.start 1 v) h)
@@ -61,7 +66,7 @@ module _ {V E : Type 0} {s : Scale V} (laws : Lawful s) (price : ℕ → E → V
 -- ---- channels that are alike
 
 -- channels whose prices agree where they are priced cost the same everywhere
-cost_alike : {V : Type 0} (s : Scale V) (c d : Prices V) → Alike c d → (p : ℕ) (e : Letter) → cost s c p e ≡ cost s d p e
+pub cost_alike : {V : Type 0} (s : Scale V) (c d : Prices V) → Alike c d → (p : ℕ) (e : Letter) → cost s c p e ≡ cost s d p e
 cost_alike s c d same p e = grind (arith, nat_tests, same.number, same.prices)
 
 -- ---- the laws

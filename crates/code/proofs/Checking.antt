@@ -105,7 +105,7 @@ module _ (self : Code) where
   narrow ks = rows-within self.rows ks columns self.room columns-within ∙ ap (λ m. select m ks (rows_of self)) length-columns
 
   -- the rows that clash with a word in the columns that are used
-  odd_columns : (w : Word) → clashes w columns ≡ set_of (syndrome (rows_of self) w)
+  pub odd_columns : (w : Word) → clashes w columns ≡ set_of (syndrome (rows_of self) w)
   odd_columns w = sym (set_bits self.rows (clashes w columns) (clashes_below self.rows w columns columns-within)) ∙ ap set_of (clashes-syndrome self.rows w columns)
 
   pub odd_set : (ns : List ℕ) (odd : ℕ) → length ns ≡ self.places → odd ≡ clashes (letters_of ns) self.columns.table

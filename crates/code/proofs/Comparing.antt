@@ -21,7 +21,7 @@ same-decides a b = (
 )
 
 -- the test of two codes is right
-same_code-decides : (a b : Code) → Decides (same_code a b) ((places_of a ≡ places_of b) × (rows_of a ≡ rows_of b))
+pub same_code-decides : (a b : Code) → Decides (same_code a b) ((places_of a ≡ places_of b) × (rows_of a ≡ rows_of b))
 same_code-decides a b =
     let places = unsigned_Decides (places_of a) (places_of b) in
     let rows = pointwise_decides (pointwise_decides same-decides) (rows_of a) (rows_of b) in (
@@ -35,7 +35,7 @@ module _ (a b : Code) where
   abbrev Same : Type 0
   Same = (places_of a ≡ places_of b) × (rows_of a ≡ rows_of b)
 
-  told : (r : Bool) → Decides r Same → r ≡ same_code a b
+  pub told : (r : Bool) → Decides r Same → r ≡ same_code a b
   told r h = one_answer r (same_code a b) h (same_code-decides a b)
 
   pub other_places : a.places ≢ b.places → false ≡ same_code a b

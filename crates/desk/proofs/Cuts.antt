@@ -6,20 +6,20 @@ use Rattle.std.proofs.lemmas.Bool.{cond-false}
 use Rattle.desk.specs.Lines.{name_of, rest_of}
 
 -- no byte is a blank
-abbrev Whole : List ℕ → Type 0
+abbrev pub Whole : List ℕ → Type 0
 Whole xs = (i : ℕ) → i < length xs → get_or xs i 0 ≡ 32 → ⊥
 
 whole_tail : (x : ℕ) (xs : List ℕ) → Whole (x ∷ xs) → Whole xs
 whole_tail x xs h i l = h (suc i) (omega arith)
 
-first_cut : (xs ys : List ℕ) → Whole xs → (name_of (xs ++ (32 ∷ ys)) ≡ xs) × (rest_of (xs ++ (32 ∷ ys)) ≡ ys)
+pub first_cut : (xs ys : List ℕ) → Whole xs → (name_of (xs ++ (32 ∷ ys)) ≡ xs) × (rest_of (xs ++ (32 ∷ ys)) ≡ ys)
 first_cut [] ys h = (refl, refl)
 first_cut (x ∷ xs) ys h =
     let no_blank = ne_eqb x 32 (h 0 (omega arith)) in
     let p = first_cut xs ys (whole_tail x xs h) in
     (cond-false _ _ _ no_blank ∙ ap (λ l. x ∷ l) p.0, cond-false _ _ _ no_blank ∙ p.1)
 
-no_cut : (xs : List ℕ) → Whole xs → (name_of xs ≡ xs) × (rest_of xs ≡ [])
+pub no_cut : (xs : List ℕ) → Whole xs → (name_of xs ≡ xs) × (rest_of xs ≡ [])
 no_cut [] h = (refl, refl)
 no_cut (x ∷ xs) h =
     let no_blank = ne_eqb x 32 (h 0 (omega arith)) in

@@ -36,6 +36,11 @@ pub none_written : (ns output : List ℕ) → output ≡ over 0 ns output
 unfolding over
 none_written ns output = refl
 
+-- all letters that there is room for, written over an output
+pub all_over : (ns output : List ℕ) (i : ℕ) → i ≡ min (length output) max_places → over i ns output ≡ written ns output
+unfolding over written
+all_over ns output i e = ap (λ n. text_of (take n ns) ++ drop n output) e
+
 -- the letters that were written over the front of an output that has room for so many, and the rest of it
 pub all_written :
     (ns output front : List ℕ) (room i : ℕ) → room ≡ min (length output) max_places → i ≡ length (take room output)
