@@ -200,7 +200,7 @@ fn the_first_row_is_not_blank(rt: HostRuntime) -> Result<(), Fail> {
 
 // Whether a refusal says that the row clashes or is a sum.
 fn clash_or_sum(refusal: Refusal) -> bool {
-    matches!(refusal, Refusal::Clash { .. } | Refusal::Sum { .. })
+    matches!(refusal.number(), 5 | 6)
 }
 
 #[test]
