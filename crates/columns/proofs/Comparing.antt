@@ -1,4 +1,4 @@
--- That the derived comparison of tables is right. Assumes nothing.
+-- That the comparison of tables is right. Assumes nothing.
 use Rattle.std.proofs.Common.{◌≡◌, ℕ, ◌<◌, true, false, eqb, ◌&&◌, List, length, get_or, Decides, refl, ap, ap₂}
 use mathlib.Core.Bool.{false≢true}
 use Rattle.std.specs.Bool.{one_answer}
